@@ -29,6 +29,7 @@ from . import evidence as second_evidence
 from . import tune as tune_reference
 from .search import FRAME, RULES, hits, identity, list_lines, listed, ranked, recording
 from .wide_search import KEPT, RATES
+from .wide_search import lines_of
 from .wide_search import list_lines as wide_lines
 from .wide_slots import narrowed
 
@@ -153,6 +154,10 @@ class Lists(NamedTuple):
             return list_lines(self.samples, listed(self.samples, rule), rule)
         return wide_lines(self.samples, self.rate, rule)
 
+    def blocks(self, words):
+        """Returns for each entry of a list of wide samples the bits of SIB1's block, or None; nothing of others."""
+        return [] if self.rate is None else [line.block for line in lines_of(self.samples, self.rate, RULES[words])]
+
     @property
     def narrow(self):
         """The samples at 1.92 million per second."""
@@ -204,6 +209,14 @@ def of_evidence(r, words):
     return found
 
 
+def of_wide_evidence(lists, words):
+    """The evidence of a list, with the blocks of SIB1 that are read from wide samples."""
+    found = of_evidence(lists.narrow, words)
+    for one, block in zip(found, lists.blocks(words)):
+        one["sib1_block"] = block and second_evidence.hexadecimal("".join(map(str, block)))
+    return found
+
+
 def of_all_evidence(r):
     """The cells of all lists, each with its evidence."""
     found = []
@@ -235,7 +248,7 @@ def of_tell(samples):
 LISTS = {"search --all --json": of_all}
 LISTS |= {" ".join(["search", *words, "--json"]): functools.partial(of_search, words=words) for words in RULES}
 FORMS = {"hits --json": of_hits, "ids --json": of_ids, "search --cancel --json": of_cancel}
-FORMS |= {" ".join(["evidence", *words, "--json"]): functools.partial(of_evidence, words=words) for words in RULES}
+LISTS |= {" ".join(["evidence", *words, "--json"]): functools.partial(of_wide_evidence, words=words) for words in RULES}
 FORMS["evidence --all --json"] = of_all_evidence
 TEXTS = {"search --all": lines_of_all, "evidence --all": lambda lists: lines_of_all_evidence(lists.narrow)}
 

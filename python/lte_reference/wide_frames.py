@@ -34,18 +34,18 @@ def is_alike(one, other):
 
 
 def together(cell, frames, grant):
-    """Returns the lines of a grant's block by all frames that have a grant alike, each by its first."""
+    """Returns a grant's block and its lines by all frames that have a grant alike, each by its first."""
     total = np.zeros((grant.size + 28, 3), np.int64)
     for frame in frames:
         own = [other for _, other in frame.answer.grants if is_alike(other, grant)]
         if own:
             total += np.array(block_sums(cell, frame.slots, frame.answer.cfi, own[0]))
     block = decoded(np.clip(total, -MOST_SUM, MOST_SUM).tolist(), grant.size)
-    return fields_lines(number(block), grant.size)
+    return block, fields_lines(number(block), grant.size)
 
 
 def read_together(cell, frames):
-    """Returns the lines by the first period and grant that give fields together, or None."""
+    """Returns the block and the lines by the first period and grant that give fields together, or None."""
     for period in sorted({frame.period for frame in frames}):
         own = [frame for frame in frames if frame.period == period]
         for _, grant in (pair for frame in own for pair in frame.answer.grants if pair[1].size <= MOST_BITS):
@@ -57,12 +57,16 @@ def read_together(cell, frames):
 
 
 def read_frames(recording, rate, cell, start, sfn):
-    """Returns where SIB1 is read, of a `frame` alone or several `frames` together, else `none`, and its lines, or why
-    there are none, for a cell whose frame of number `sfn` begins at sample `start` at 1.92 million per second."""
+    """Returns where SIB1 is read, of a `frame` alone or several `frames` together, else `none`, its lines, or why there
+    are none, and the bits of its block, or None, for a cell whose frame of number `sfn` begins at sample `start` at 1.92
+    million per second."""
     frames = []
     for frame in tries(recording, rate, cell, start, sfn):
         if frame.answer.block is not None:
-            return "frame", frame.answer.text
+            return "frame", frame.answer.text, frame.answer.block
         frames.append(frame)
-    lines = read_together(cell, frames)
-    return ("frames", lines) if lines else ("none", frames[0].answer.text)
+    found = read_together(cell, frames)
+    if found is None:
+        return "none", frames[0].answer.text, None
+    block, lines = found
+    return "frames", lines, block

@@ -73,7 +73,7 @@ def of_cancelling(cells: Sequence[SeenCell], file: RadioFile) -> str | None:
     sure = [cell for cell in cells if not cell.is_chance(cells)]
     if len(sure) != 1 or not file.is_recording() or sure[0].line.sib1 is None or sure[0].line.ports != 1:
         return None
-    if not any(one.sib1_block for one in sure[0].seen):
+    if not any(one.sib1_block and not one.is_wide for one in sure[0].seen):
         return None  # SIB1 was read at a rate, which `search --cancel` does not have
     one, faults = sure[0].strongest, list[str]()
     if one.level is not None and one.level > LOUDEST:

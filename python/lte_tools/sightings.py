@@ -269,6 +269,7 @@ class Sighting:
     missing: float = 0  # samples of a recording that are missing before it in the file
     gain: float = 0  # dB of the radio's gain, which its level includes
     unread: str | None = None  # why SIB1 was not read at the cell's bandwidth, if that was asked (wide.py)
+    is_wide: bool = False  # whether SIB1 was read at the cell's bandwidth
 
     @functools.cached_property
     def fixed(self) -> Cell:

@@ -2,7 +2,7 @@
 
 Of a cell's strongest windows, WINDOWS at most, PART seconds are converted at the lowest rate that holds the cell's resource
 blocks, with the cell's own frequency offset corrected, and `lte_cli search --rate` lists them, until the line with the
-cell's identity, frame start and frame number has SIB1.
+cell's identity, frame start and frame number has SIB1. `lte_cli evidence --rate` gives the bits of its block.
 
 Debian: python3-numpy, python3-scipy. Needs lte_cli.
 """
@@ -11,14 +11,14 @@ from __future__ import annotations
 import dataclasses
 import itertools
 from dataclasses import dataclass
-from typing import TYPE_CHECKING, Sequence
+from typing import TYPE_CHECKING, Iterable, NamedTuple, Sequence
 
 from . import programs, rates
-from .answers import Cell
+from .answers import Cell, Evidence
 from .cells import SeenCell
 from .columns import BLOCKS
 from .radio_file import LEAST, RadioFile
-from .rules import LONG_PREFIX, RULES
+from .rules import LONG_PREFIX, RULES, Rule
 from .sightings import Sighting, Task, distance, epoch_of
 
 if TYPE_CHECKING:
@@ -65,36 +65,56 @@ def is_open(line: Cell) -> bool:
 # ---- answers
 
 
-def answered(question: Question) -> Cell:
-    """Returns the line with SIB1, or with the reason why it is not read at the cell's bandwidth."""
+class Found(NamedTuple):
+    """The line of a question with SIB1 and the block's hexadecimal digits, or with the reason why SIB1 is not read at the
+    cell's bandwidth."""
+
+    line: Cell
+    block: str | None = None
+
+
+def answered(question: Question) -> Found:
+    """Returns what is read at the cell's bandwidth."""
     line = question.line
     if not question.is_held:
-        return dataclasses.replace(line, no_sib1=f"{NEEDS}{BLOCKS[line.bandwidth]} MHz")
-    found = next((one for one in listed(question) if is_of(line, one)), line)
-    return dataclasses.replace(line, sib1=found.sib1, no_sib1=found.no_sib1)
+        return Found(dataclasses.replace(line, no_sib1=f"{NEEDS}{BLOCKS[line.bandwidth]} MHz"))
+    recording, rule = recording_of(question), rule_of(line)
+    every = programs.listed(Cell, ("search", *rule.arguments, "--json"), recording, "search")
+    found = next((one for one in every if is_of(line, one)), line)
+    block = None if found.sib1 is None else block_of(line, programs.evidence_of(recording, rule))
+    return Found(dataclasses.replace(line, sib1=found.sib1, no_sib1=found.no_sib1), block)
 
 
-def listed(question: Question) -> programs.Answers[Cell]:
-    """Returns the list of a part of the window at the rate of the cell's bandwidth; a part of three frames that the
-    conversion made shorter ends in silence."""
+def rule_of(line: Cell) -> Rule:
+    """Returns the rule of the list for a line's antenna ports."""
+    return next(one for one in RULES if one.announced == line.ports)
+
+
+def block_of(line: Cell, every: Iterable[Evidence]) -> str | None:
+    """Returns the hexadecimal digits of the block of a line's SIB1, or None."""
+    return next((one.sib1_block for one in every if is_of(line, one)), None)
+
+
+def recording_of(question: Question) -> programs.Recording:
+    """Returns a part of the window at the rate of the cell's bandwidth; a part of three frames that the conversion made
+    shorter ends in silence."""
     task, rate = question.task, rates.lowest(question.blocks)
     data, _ = task.file.filtered(task.start, min(task.length, PART), question.offset, rate)
     data = data.ljust(4 * LEAST * rate // rates.NARROW, b"\0")
-    rule = next(one for one in RULES if one.announced == question.line.ports)
-    recording = programs.Recording(data, rates.arguments_of(rate))
-    return programs.listed(Cell, ("search", *rule.arguments, "--json"), recording, "search")
+    return programs.Recording(data, rates.arguments_of(rate))
 
 
-def is_of(line: Cell, other: Cell) -> bool:
+def is_of(line: Cell, other: Cell | Evidence) -> bool:
     """Returns whether two lines of a window have one identity, frame start and frame number."""
     return line.identity == other.identity and distance(epoch_of(line), epoch_of(other)) <= NEAR
 
 
-def with_answer(one: Sighting, line: Cell) -> Sighting:
-    """Returns a sighting with SIB1 of an answer, or with its reason."""
-    if line.sib1 is None:
-        return dataclasses.replace(one, unread=line.no_sib1)
-    return dataclasses.replace(one, line=dataclasses.replace(one.line, sib1=line.sib1, no_sib1=None))
+def with_answer(one: Sighting, found: Found) -> Sighting:
+    """Returns a sighting with SIB1 of an answer and its block, or with its reason."""
+    if found.line.sib1 is None:
+        return dataclasses.replace(one, unread=found.line.no_sib1)
+    line = dataclasses.replace(one.line, sib1=found.line.sib1, no_sib1=None)
+    return dataclasses.replace(one, line=line, sib1_block=found.block, is_wide=True)
 
 
 def informed(one: Sighting) -> Sighting:
@@ -112,6 +132,6 @@ def inform(ask: Ask, cells: Sequence[SeenCell], files: Sequence[RadioFile] = ())
     for number in range(WINDOWS):
         every = itertools.zip_longest(cells, strongest, files)
         asked = [(cell, seen[number], file) for cell, seen, file in every if is_open(cell.line) and seen[number:]]
-        lines = ask("SIB1", answered, [question_of(one, file) for _, one, file in asked])
-        for (cell, one, _), line in zip(asked, lines):
-            cell.replace(one, with_answer(one, line))
+        found = ask("SIB1", answered, [question_of(one, file) for _, one, file in asked])
+        for (cell, one, _), answer in zip(asked, found):
+            cell.replace(one, with_answer(one, answer))

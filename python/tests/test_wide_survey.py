@@ -4,15 +4,18 @@ import dataclasses
 import io
 import json
 import subprocess
+import xml.etree.ElementTree as ElementTree
 
 import numpy as np
 
 import lte_tools
+from lte_reference import cell as reference_cell
+from lte_reference.sib1_tshark import compare
 from lte_tools import live, radio, scan, to_ci16, wide
 from lte_tools.cells import joined
 from lte_tools.radio_file import RadioFile
 from lte_tools.sightings import Task
-from tests.conftest import WIDE_RATE, as_radio
+from tests.conftest import CELL, WIDE_RATE, as_radio, needs
 from tests.test_one_line import sighting
 
 FAST = ("--jobs", "1", "--offset", "0", "--every", "0.05")  # one window, and no question to lte_tune
@@ -46,12 +49,32 @@ def test_a_wide_cell_has_its_columns(tool, wide_file):
     finds(run, enodeb="73850", sector="2", no_sib1="", chance="no", doubts="")
 
 
-def test_json_has_sib1_without_its_block(tool, wide_file, tmp_path):
+def test_json_and_packets_have_sib1_with_its_block(tool, wide_file, tmp_path):
     run = tool("survey", wide_file, "--rate", WIDE_RATE, "--json", "--pcap", tmp_path / "wide.pcap", *FAST)
     (cell,) = json.loads(run.out)["cells"]
     assert cell["sib1"]["cell"] == 18_905_602 and cell["rule"] == "two-ports"
-    assert [one["sib1_block"] for one in cell["seen"]] == [None]
-    assert (tmp_path / "wide.pcap").read_bytes().count(b"\x12\x79\x12\x79") == 1  # both ports of the only packet, a MIB
+    text, (block,) = "".join(map(str, reference_cell.text(CELL["sib1"]))), [one["sib1_block"] for one in cell["seen"]]
+    assert bits_of(block)[: len(text)] == text and set(bits_of(block)[len(text) :]) == {"0"}
+    packets = (tmp_path / "wide.pcap").read_bytes()
+    assert packets.count(b"\x12\x79\x12\x79") == 2  # both ports of each packet: the MIB, and SIB1
+    assert packets.count(bytes.fromhex(block)) == 1
+
+
+def bits_of(block):
+    """Returns the bits of hexadecimal digits."""
+    return "".join(format(byte, "08b") for byte in bytes.fromhex(block))
+
+
+@needs("tshark")
+def test_tshark_reads_sib1_of_a_wide_cell(tool, wide_file, tmp_path):
+    run = tool("survey", wide_file, "--rate", WIDE_RATE, "--pcap", tmp_path / "wide.pcap", *FAST)
+    assert run.status == 0, run.err
+    words = ["tshark", "-r", tmp_path / "wide.pcap", "-T", "pdml"]
+    pdml = subprocess.run(words, check=True, stdout=subprocess.PIPE, stderr=subprocess.DEVNULL).stdout
+    (found,) = filter(None, map(compare.fields_of_packet, ElementTree.fromstring(pdml).iter("packet")))
+    sib1 = CELL["sib1"]
+    assert {key: found[key] for key in ("tac", "cell", "band")} == {key: sib1[key] for key in ("tac", "cell", "band")}
+    assert [plmn[:2] for plmn in found["plmns"]] == [["001", "01"]]
 
 
 def test_another_rate_and_place_in_the_file(tool, wave, tmp_path):
@@ -93,7 +116,7 @@ def asked_of(levels, answers):
     def ask(name, function, questions):
         assert function is wide.answered
         asked.extend(level_of[one.task.start] for one in questions)
-        return [answers[level_of[one.task.start]](one.line) for one in questions]
+        return [wide.Found(answers[level_of[one.task.start]](one.line)) for one in questions]
 
     wide.inform(ask, [cell])
     return asked, cell
@@ -136,7 +159,7 @@ def test_a_window_of_three_frames_has_as_many_samples_as_are_needed(monkeypatch)
     monkeypatch.setattr(RadioFile, "samples", lambda file, first, count: np.ones(count - 3, complex))
     file = RadioFile(None, "s16", 9_999_999, 10**7, 0, 0)
     line = dataclasses.replace(sighting(7, 0, 1_000, has_sib1=False).line, bandwidth="n50", ports=4)
-    assert wide.answered(wide.Question(Task(file, 0.1, 0.03), line, 12.5)).no_sib1 == line.no_sib1
+    assert wide.answered(wide.Question(Task(file, 0.1, 0.03), line, 12.5)) == wide.Found(line)
     ((_, arguments, recording, _),) = asked
     assert (arguments, recording.arguments) == (("search", "--ports", "4", "--json"), ("--rate", "15.36"))
     assert len(recording.data) == 4 * 8 * 57_600
