@@ -1,12 +1,16 @@
 """Several files as one drive, WAV files, and what names of recordings state."""
+import csv
+import dataclasses
 import datetime
+import io
 import json
 import struct
 
 import numpy as np
 import pytest
 
-from lte_tools import machine, names, options, radio_file, summary, survey_data, survey_table, wav
+from lte_tools import machine, names, options, radio, radio_file, summary, survey_data, survey_table, surveying, wav
+from tests.test_one_line import sighting
 
 UTC = datetime.timezone.utc
 SECOND = 1_920_000  # samples
@@ -96,6 +100,19 @@ def test_wave_that_is_refused(tmp_path, name):
     with pytest.raises(machine.Refused, match="^[^\n]*$") as refused:
         radio_file.opened(options.FileOptions(tmp_path / "x.wav"))
     assert text in str(refused.value) and "x.wav" in str(refused.value)
+
+
+@pytest.mark.parametrize("is_by_header", [True, False])
+def test_survey_of_a_wave(tool, drive, tmp_path, is_by_header):
+    """A file of SDR# has time and frequency in its name, one of HDSDR in its header too; the numbers are bytes."""
+    name = "HDSDR_RF.wav" if is_by_header else "SDRSharp_20260714_101530Z_796000000Hz_IQ.wav"
+    (tmp_path / name).write_bytes(wave(drive.read_bytes(), bits=8, auxi=auxiliary() if is_by_header else b""))
+    words = ("--carrier", "796.3e6", "--offset", "0", "--every", "0.05", "--jobs", "1", "--csv")
+    run = tool("survey", tmp_path / name, *words)
+    assert run.status == 0, run.err
+    (row,) = csv.DictReader(io.StringIO(run.out))
+    assert (row["identity"], row["cell"], row["frequency"]) == ("217", "18905602", "796300000.0")
+    assert row["datetime"] == f"2026-07-14T10:15:30.{257 if is_by_header else '007'}+00:00"
 
 
 # ---- several files
@@ -214,3 +231,72 @@ def test_survey_of_a_drive(tool, sent, tmp_path):
     assert [one.identity for one in found.cells] == [217] and found.windows == 2
     assert [one.missing for one in found.parts] == [0, 6.95] and found.datetime == "2026-07-14T10:15:30.000+00:00"
     assert [one.datetime for one in found.cells[0].seen][1].startswith("2026-07-14T10:15:37.0")
+
+
+PIECE = 2 * 17 * 19_200  # samples of a file: two windows
+BEGINS = {30: 100, 92: 7_000, 91: 15_000}  # the sample of the drive at which frame 0 of a cell begins
+TIMES = [BEGIN + 7 * k + 0.37 * k % 1 for k in range(36)]  # when files begin
+
+
+@pytest.fixture
+def pieces(tmp_path):
+    """Writes 36 files whose time is in their names to a second, or in SigMF to a millisecond, and returns their paths."""
+
+    def write(is_sigmf):
+        paths = []
+        for k, begin in enumerate(TIMES):
+            time = datetime.datetime.fromtimestamp(begin, UTC)
+            stem = f"{k * 7 % 36}" if is_sigmf else f"{k * 7 % 36}_{time:%Y%m%d_%H%M%S}Z"
+            data = tmp_path / f"{stem}.{'sigmf-data' if is_sigmf else 'ci16'}"
+            with data.open("wb") as file:
+                file.truncate(4 * PIECE)
+            whole = {"core:datatype": "ci16_le", "core:sample_rate": SECOND}
+            captures = [{"core:datetime": f"{time.isoformat(timespec='milliseconds')[:-6]}Z"}]
+            if is_sigmf:
+                data.with_suffix(".sigmf-meta").write_text(json.dumps({"global": whole, "captures": captures}))
+            paths.append(data.with_suffix(".sigmf-meta") if is_sigmf else data)
+        return sorted(paths)  # as a shell names them: in another order than that of time
+
+    return write
+
+
+def seen_in(task):
+    """The cells of a window, by when its file really began."""
+    file = task.file
+    number = int(file.part_at(task.first).first / PIECE)
+    sample = round((TIMES[number] - BEGIN) * SECOND) + task.first - number * PIECE
+    found = []
+    for identity, begin in BEGINS.items():
+        at = (begin - sample) % radio.FRAME
+        one = sighting(identity, 0, 0)
+        line = dataclasses.replace(one.line, at=at, sfn=(sample + at - begin) // radio.FRAME % 1024)
+        found.append(dataclasses.replace(one, task=task, line=line))
+    return found, survey_data.Power(round(task.start, 6), -30.0, -70.0)
+
+
+@pytest.mark.parametrize("is_sigmf", [False, True])
+def test_survey_of_36_files(pieces, is_sigmf):
+    first, *further = pieces(is_sigmf)
+    given = options.SurveyOptions(first, further=tuple(further), offset=0)
+    file = radio_file.opened(given)
+
+    def ask(name, function, tasks):
+        assert name == "cells" or not tasks
+        return [seen_in(task) for task in tasks]
+
+    found = surveying.surveyed(given, file, ask)
+    assert [(one.identity, one.windows, one.chance) for one in found.cells] == [
+        (30, 72, False),
+        (92, 72, False),
+        (91, 72, False),
+    ]
+    assert found.windows == 72 and len(found.parts) == 36 and len(found.gaps) == 35
+    exact = [round(b - a - PIECE / SECOND, 3) for a, b in zip(TIMES, TIMES[1:])]
+    whole = [round(int(b) - int(a) - PIECE / SECOND, 3) for a, b in zip(TIMES, TIMES[1:])]
+    assert [one.missing for one in found.parts[1:]] == pytest.approx(exact if is_sigmf else whole, abs=0.002)
+    text = survey_table.parts_text(found.parts)
+    assert text.startswith("36 files in the order of time, missing between them: ") and text.endswith(
+        " 31 further gaps"
+    )
+    late = survey_data.timestamp(found.cells[0].seen[-1].datetime) - TIMES[-1]
+    assert late + (not is_sigmf) * (TIMES[-1] % 1) == pytest.approx(0.175, abs=0.007)  # in the last of 72 windows

@@ -2,6 +2,7 @@
 import json
 import os
 import subprocess
+import threading
 import time
 
 import pytest
@@ -142,3 +143,32 @@ def test_places_of_a_pipe(tool, sent, tmp_path, monkeypatch):
         options.checked_survey(options.SurveyOptions(options.pathlib.Path("-"), wait=True, track=way))
     with pytest.raises(machine.Refused, match="--track and --gpsd"):
         options.checked_survey(options.SurveyOptions(options.pathlib.Path("-"), gpsd=way, track=way))
+
+
+def test_pipe_with_places_of_gpsd_to_its_end(tool, sent, tmp_path, monkeypatch):
+    """A receiver writes places into a named pipe while samples come; at the end each window has its place."""
+    from tests.conftest import as_radio
+
+    gps, geojson, samples = tmp_path / "gps", tmp_path / "cells.geojson", tmp_path / "samples"
+    os.mkfifo(gps)
+    samples.write_bytes(as_radio(sent, "u8", 1_920_000))
+
+    def drive_north():
+        now = time.time()
+        points = ({**POINT, "time": track.iso(now + i), "lat": 52 + 0.001 * i} for i in range(-1, 10))
+        with gps.open("w") as file:  # waits until the survey reads
+            file.write(lines({"class": "VERSION"}, *points))
+
+    receiver = threading.Thread(target=drive_north)
+    receiver.start()
+    with subprocess.Popen(f"sleep 1; cat {samples}", shell=True, stdout=subprocess.PIPE) as writer:
+        monkeypatch.setattr(live, "STDIN", writer.stdout.fileno())
+        words = ("-", "--form", "u8", "--offset", "0", "--jobs", "1", "--json", "--gpsd", gps, "--geojson", geojson)
+        run = tool("survey", *words)
+    receiver.join()
+    assert run.status == 0 and "no places" not in run.err, run.err
+    found = json.loads(run.out)
+    lon, lat = found["cells"][0]["seen"][0]["place"]
+    assert lon == 13 and 52.0005 < lat < 52.009 and found["track"]["places"] == 11
+    kinds = [one["properties"]["kind"] for one in json.loads(geojson.read_text())["features"]]
+    assert kinds == ["cell", "window"]
