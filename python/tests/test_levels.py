@@ -106,7 +106,7 @@ def test_gain_step_while_a_cell_fades():
 def test_gain_step_in_a_file_of_bytes(tmp_path, noise):
     """The noise is half a step of the numbers in each component: a quarter of the noise floor is their rounding, which the
     gain does not change."""
-    gain, middle, full = np.repeat([0, 8], 6), *FORMS["u8"][1:]
+    gain, middle = np.repeat([0, 8], 6), FORMS["u8"].middle
     x = carrier_in(noise, -540e3, 540e3, 20) * np.sqrt(2)
     parts = [0.5 * 10 ** (one / 20) * x[i * 20_000 :][:60_000].view(float) for i, one in enumerate(gain)]
     (tmp_path / "x.cu8").write_bytes(np.clip(np.round(np.concatenate(parts) + middle), 0, 255).astype("u1").tobytes())
