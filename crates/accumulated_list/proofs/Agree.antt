@@ -58,8 +58,9 @@ listed_agree halves a b agree cell is = record {
 
 pub covered_samples_decide_list : CoveredSamplesDecide
 covered_samples_decide_list halves a b agree cells list = record {
-  listed = λ cell.
-      (λ there. listed_agree halves a b agree cell ((list.listed cell).0 there),
-      λ is. (list.listed cell).1 (listed_agree halves b a (sym agree) cell is));
+  listed = λ cell. (
+    λ there. listed_agree halves a b agree cell ((list.listed cell).0 there),
+    λ is. (list.listed cell).1 (listed_agree halves b a (sym agree) cell is),
+  );
   order = list.order;
 }

@@ -57,7 +57,7 @@ module _ (recording : List Sample) (halves : ℕ) where
   none_echoes cell other passes (k, l, at) echo =
       let row = row_of recording halves cell.n2 in
       let some : list_any (λ o. is_echo row o cell) (cells cell.n2) ≡ true =
-          list_any-from_Any (λ o. is_echo row o cell) (cells cell.n2) (k, other, l, at, from_echo other cell echo) in
+      list_any-from_Any (λ o. is_echo row o cell) (cells cell.n2) (k, other, l, at, from_echo other cell echo) in
       false≢true (sym (ap not some) ∙ passes)
 
   listed_here : (cell : DetectedCell) → Contains (listed_cells recording halves cell.n2) cell → IsDetected recording halves cell → IsListed recording halves cell

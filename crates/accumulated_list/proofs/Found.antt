@@ -47,7 +47,7 @@ module _ (recording : List Sample) (halves : ℕ) where
       let (found, detection, e) = found_is n2 t cell is in
       let candidate = (list_is_right (row_of recording halves n2) t).0 there in
       let made : IsDetected recording halves (cell_at recording halves n2 t found) =
-          record { found = found; member = member; candidate = candidate; detection = detection; fields = refl } in
+      record { found = found; member = member; candidate = candidate; detection = detection; fields = refl } in
       (subst (IsDetected recording halves) (sym e) made, ap (λ c. c.n2) e)
 
   pub detected_has : (cell : DetectedCell) → IsDetected recording halves cell → Contains (detected_cells recording halves cell.n2) cell

@@ -159,8 +159,8 @@ module _ (recording : List Sample) (halves : ℕ) where
       distinct : IsDistinct same cells
       distinct = IsDistinct-from_apart same cells (λ i j d below inside.
           let lt = order_by (get_or cells i d) (get_or cells j d)
-              (All-get_or HasSignal cells i d (omega (arith, below, inside)) (have_signals cells are))
-              (All-get_or HasSignal cells j d inside (have_signals cells are)) (list.order i j d below inside) in
+          (All-get_or HasSignal cells i d (omega (arith, below, inside)) (have_signals cells are))
+          (All-get_or HasSignal cells j d inside (have_signals cells are)) (list.order i j d below inside) in
           not_same (get_or cells i d) (get_or cells j d) (λ e. omega (arith, lt, e)))
 
       member : (cell : DetectedCell) → is_member same cells cell ≡ true → is_member same all cell ≡ true

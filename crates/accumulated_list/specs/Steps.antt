@@ -25,7 +25,7 @@ is_echo row other cell = (other.id == cell.id) &&
 unfoldable pub is_no_echo : List ℕ → List DetectedCell → DetectedCell → Bool
 is_no_echo row cells cell = not (list_any (λ other. is_echo row other cell) cells)
 
--- those of `cells` that are not an echo of another
+-- the cells of a list that are not an echo of another one there
 unfoldable pub without_echoes : List ℕ → List DetectedCell → List DetectedCell
 without_echoes row cells = filter (is_no_echo row cells) cells
 

@@ -12,9 +12,8 @@ ghost use Rattle.accumulated_list.specs.Laws.{OnlyOneList, CoveredSamplesDecide,
 pub use cell::DetectedCell;
 pub use listing::list_accumulated;
 
-/// A law: there is only one list, and the samples that the half-frames cover decide it. Two cells with one identity are
-/// more than 137 positions apart. At least 93 signs match those of each cell, and its position is a maximum. The list has
-/// at most 192 cells.
+/// A law: the covered samples decide the list, and there is only one. Cells with one identity are more than 137 positions
+/// apart, each has at least 93 matches and a maximum, and there are at most 192.
 pub fn list_is_right()
     ensures only { OnlyOneList }
     ensures covered { CoveredSamplesDecide }

@@ -12,9 +12,8 @@ use accumulated_pss::{Accumulated, accumulate, candidates};
 use sample_file::Recording;
 use std::alloc::{AllocError, Global};
 
-/// Lists the cells that are detected in the first `halves` half-frames, at least 1 and at most as many as the recording
-/// has: those that are not an echo, within 137 samples, of a cell with the same identity and a greater ratio. They are in
-/// order of position, then of primary signal. Fails only if an allocation fails. (own)
+/// Lists the cells that are detected in the first `halves` half-frames, 1 to `half_frames`, in order of position, then of
+/// primary signal. Within 137 samples, an identity is listed once. Fails only if an allocation fails. (own)
 pub fn list_accumulated(
     alloc: Global,
     recording: &Recording,
@@ -91,7 +90,10 @@ fn detected_cells(
     let positions = candidates(alloc, sums, n2)?;
     let mut list = Vec::new(alloc);
     for k in 0..positions.len() {
-        add(&mut list, cell_found(recording, halves, sums, n2, positions[k]))?;
+        add(
+            &mut list,
+            cell_found(recording, halves, sums, n2, positions[k]),
+        )?;
     }
     Ok(list)
 }
