@@ -6,7 +6,7 @@ use Rattle.accumulated_pss.specs.Sums.{IsPosition, accumulated, covered, row_of,
 use Rattle.accumulated_pss.specs.Maxima.{IsCandidate, precedes}
 use Rattle.accumulated_pss.proofs.Rows.{rows_hold_sums, first_samples_decide}
 use Rattle.accumulated_sss.specs.declared.detecting.Detection.{Detection}
-use Rattle.accumulated_sss.specs.Detection.{IsDetection, detection_at}
+use Rattle.accumulated_sss.specs.Detection.{IsDetection}
 use Rattle.accumulated_sss.proofs.Agree.{covered_samples_decide}
 use Rattle.accumulated_sss.proofs.Detections.{detection_is_right}
 use Rattle.accumulated_list.specs.declared.cell.DetectedCell.{DetectedCell}

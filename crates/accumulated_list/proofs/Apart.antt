@@ -1,5 +1,5 @@
 -- Two listed cells with one identity are more than 137 positions apart, and what supports a listed cell.
-use Rattle.std.proofs.Common.{◌≡◌, ◌≢◌, ◌∙◌, inl, inr, ℕ, ◌<◌, ◌≤◌, List, true, min, arith, ap, sym, subst}
+use Rattle.std.proofs.Common.{◌≡◌, ◌∙◌, inl, inr, ℕ, ◌<◌, ◌≤◌, List, true, min, arith, ap, sym, subst}
 use Rattle.std.proofs.lemmas.Bool.{cases_lt}
 use Rattle.cs_num.specs.declared.Sample.{Sample}
 use Rattle.accumulated_pss.specs.Sums.{row_of}

@@ -1,6 +1,6 @@
 -- The test for an echo agrees with its definition, and the listed cells of the three primary signals are all listed cells.
-use Rattle.std.proofs.Common.{◌≡◌, ◌∙◌, ◌⊎◌, inl, inr, ℕ, zero, suc, ◌+◌, ◌*◌, ◌≤◌, Bool, true, false, not, nat_le, nat_eq, List, ◌++◌, length, length-append, filter, arith, refl, ap, sym, subst, eqb-true}
-use Rattle.std.specs.List.{AllPairs, Any, Contains, list_any}
+use Rattle.std.proofs.Common.{◌≡◌, ◌∙◌, inl, inr, ℕ, zero, suc, ◌+◌, ◌*◌, ◌≤◌, Bool, true, false, not, nat_le, nat_eq, List, ◌++◌, length, length-append, arith, refl, ap, sym, subst, eqb-true}
+use Rattle.std.specs.List.{AllPairs, Contains, list_any}
 use Rattle.std.proofs.lemmas.Bool.{and_parts, and_from, false≢true, leb-true, le-leb}
 use Rattle.std.proofs.lemmas.Bool.Decides.{nat_tests}
 use Rattle.std.proofs.lemmas.List.Elements.{Contains-append_left, Contains-append_right, Contains-append_cases}
@@ -9,11 +9,11 @@ use Rattle.std.proofs.lemmas.List.Kept.{AllPairs-filter}
 use Rattle.std.proofs.lemmas.List.Sums.{length-filter, count_by-le-length}
 use Rattle.cs_num.specs.declared.Sample.{Sample}
 use Rattle.accumulated_pss.specs.Sums.{row_of}
-use Rattle.accumulated_pss.specs.Maxima.{distance, precedes}
+use Rattle.accumulated_pss.specs.Maxima.{distance}
 use Rattle.accumulated_pss.proofs.Kept.{filter-passes, filter-inside, filter-keeps}
 use Rattle.accumulated_list.specs.declared.cell.DetectedCell.{DetectedCell}
 use Rattle.accumulated_list.specs.Cells.{IsDetected, IsEcho, IsListed}
-use Rattle.accumulated_list.specs.Steps.{detected_cells, is_echo, is_no_echo, without_echoes, listed_cells, all_listed, order_of}
+use Rattle.accumulated_list.specs.Steps.{detected_cells, is_echo, is_no_echo, without_echoes, listed_cells, all_listed}
 use Rattle.accumulated_list.proofs.Found.{detected_from, detected_has, detected_differ, detected_few, Differ}
 
 eq_test : (a b : ℕ) → a ≡ b → nat_eq a b ≡ true

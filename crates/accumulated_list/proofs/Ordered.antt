@@ -1,10 +1,10 @@
 -- The listed cells, sorted, are the list: it is in order, the only one, and short.
-use Rattle.std.proofs.Common.{◌≡◌, ◌∙◌, ◌⊎◌, inl, inr, ℕ, ◌+◌, ◌*◌, ◌<◌, ◌≤◌, Bool, true, false, nat_eq, List, ◌++◌, length, get_or, arith, refl, sym, subst, eqb-true}
+use Rattle.std.proofs.Common.{◌≡◌, ◌⊎◌, inl, inr, ℕ, ◌+◌, ◌*◌, ◌<◌, ◌≤◌, Bool, true, false, nat_eq, List, ◌++◌, length, get_or, arith, eqb-true}
 use Rattle.std.specs.Cmp.{IsEquivalence}
-use Rattle.std.specs.List.{All, AllPairs, Contains, IsDistinct, list_any}
+use Rattle.std.specs.List.{All, AllPairs, Contains, IsDistinct}
 use Rattle.std.specs.List.Sorted.{IsPermutation, IsNonDecreasingBy}
 use Rattle.std.specs.Set.{is_member}
-use Rattle.std.proofs.lemmas.Bool.{cases_lt, false≢true, false_from_ne_true}
+use Rattle.std.proofs.lemmas.Bool.{cases_lt, false_from_ne_true}
 use Rattle.std.proofs.lemmas.Bool.Decides.{nat_tests}
 use Rattle.std.proofs.lemmas.List.Elements.{All-get_or, Contains-append_cases}
 use Rattle.std.proofs.lemmas.List.Folds.{Any-from_list_any, list_any-from_Any}

@@ -1,4 +1,4 @@
-use Rattle.std.proofs.Common.{◌≡◌, ◌∙◌, ◌*◌, ◌≤◌, ℕ, Some, ap, sym, subst}
+use Rattle.std.proofs.Common.{◌∙◌, ◌*◌, ◌≤◌, ℕ, Some, ap, sym, subst}
 use Rattle.std.specs.Prelude.{option_map}
 use Rattle.accumulated_pss.specs.Sums.{one}
 use Rattle.accumulated_list.specs.Cells.{cell_with, cell_at}

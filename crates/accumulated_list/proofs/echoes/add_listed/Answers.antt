@@ -1,4 +1,4 @@
-use Rattle.std.proofs.Common.{◌≡◌, ◌∙◌, List, [], ◌∷◌, ◌++◌, Bool, cond, filter, take, take_all, append_assoc, arith, ap, sym}
+use Rattle.std.proofs.Common.{◌∙◌, List, [], ◌∷◌, ◌++◌, Bool, cond, filter, take, take_all, append_assoc, arith, ap, sym}
 use Rattle.std.proofs.lemmas.List.Elements.{filter_more}
 use Rattle.accumulated_pss.specs.Sums.{row_in}
 use Rattle.accumulated_list.specs.declared.cell.DetectedCell.{DetectedCell}

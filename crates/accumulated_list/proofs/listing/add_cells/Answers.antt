@@ -1,4 +1,4 @@
-use Rattle.std.proofs.Common.{◌≡◌, ◌∙◌, ℕ, List, ◌++◌, ap₂}
+use Rattle.std.proofs.Common.{◌∙◌, ℕ, List, ◌++◌, ap₂}
 use Rattle.accumulated_list.specs.declared.cell.DetectedCell.{DetectedCell}
 use Rattle.accumulated_list.specs.Steps.{without_echoes}
 use Rattle.accumulated_list.proofs.SumsInRows.{row_is}

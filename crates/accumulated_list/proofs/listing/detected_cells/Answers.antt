@@ -1,4 +1,4 @@
-use Rattle.std.proofs.Common.{◌≡◌, ◌∙◌, ◌<◌, ℕ, List, [], ◌++◌, Option, length, take_all, arith, ap, ap₂, sym, subst}
+use Rattle.std.proofs.Common.{◌∙◌, ◌<◌, ℕ, List, [], ◌++◌, Option, length, take_all, arith, ap, ap₂, sym, subst}
 use Rattle.std.specs.List.{All, filter_map, cons_option}
 use Rattle.accumulated_pss.specs.Sums.{IsPosition}
 use Rattle.accumulated_pss.specs.Maxima.{candidates}
