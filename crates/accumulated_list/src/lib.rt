@@ -1,6 +1,6 @@
 //! The list of cells that are detected over many half-frames, down to levels far below that of the strongest cell:
 //! candidates of the primary signals at which the secondary signal is detected, without echoes.
-//! Tests: the crate `accumulated_tests`.
+//! Tests: none yet.
 #![tactic(auto)]
 
 mod cell;
