@@ -4,6 +4,7 @@ mod PortByPort
 pub mod Least
 pub mod Numbers
 pub mod Only
+pub mod SetBlocks
 mod Early
 mod FirstBlocks
 mod OneBlock

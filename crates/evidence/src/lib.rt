@@ -15,4 +15,4 @@ mod support;
 pub use clear::clean_entries_are_clear;
 pub use listing::evidence_of_list;
 pub use slot::SlotShown;
-pub use support::{Support, support_of_list};
+pub use support::{Support, set_blocks, support_of_list};

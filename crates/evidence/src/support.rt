@@ -1,13 +1,13 @@
 //! Measurements of an entry and its slot, with the bits of its MIB and its SIB1.
 
-ghost use Rattle.std.specs.Prelude.{◌≡◌, IfOk, length};
+ghost use Rattle.std.specs.Prelude.{◌≡◌, ◌≤◌, IfOk, length, map};
 ghost use Rattle.std.specs.List.{AllZip};
 ghost use Rattle.explain.specs.Entries.{IsEntryFor, IsListFor};
 ghost use Rattle.explain.specs.Laws.{IsEntryOfSome};
 ghost use Rattle.explain.specs.Readings.{IsReadingFor};
 ghost use Rattle.explain.specs.Receiver.{Receiver, hits_by};
 ghost use Rattle.evidence.specs.Blocks.{master_number, master_bits};
-ghost use Rattle.evidence.specs.Shown.{Shown, IsShownFor};
+ghost use Rattle.evidence.specs.Shown.{Shown, IsShownFor, with_bits, with_blocks};
 
 use crate::SlotShown;
 use crate::blocks::system_block;
@@ -68,6 +68,15 @@ impl Support {
         ensures { result.now ≡ self.now.block }
     {
         &self.block
+    }
+
+    // Replaces the bits of the transport block that carried SIB1 by `bits`, if there are any.
+    fn set_block(&mut self, bits: Vec<bool>)
+        ensures { self.new ≡ with_bits self.old bits.items }
+    {
+        if !bits.is_empty() {
+            self.block = bits;
+        }
     }
 }
 
@@ -135,4 +144,15 @@ fn support_of(
         mib: entry.mib,
         block,
     })
+}
+
+/// Replaces the bits of SIB1's transport block in each of `supports` by the bits at the same index in `blocks`, if there
+/// are any. (own)
+pub fn set_blocks(supports: &mut [Support], mut blocks: Vec<Vec<bool>>)
+    requires { length blocks.items ≤ length supports.old }
+    ensures { supports.new ≡ with_blocks supports.old (map (λ bits. bits.items) blocks.items) }
+{
+    while let Some(bits) = blocks.pop() {
+        supports[blocks.len()].set_block(bits);
+    }
 }
