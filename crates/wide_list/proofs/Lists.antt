@@ -1,5 +1,5 @@
 -- Lists of entries: informed one entry after the other, and determined.
-use Rattle.std.proofs.Common.{◌≡◌, ◌∙◌, inl, inr, ℕ, suc, ◌+◌, ◌<◌, ◌≤◌, ◌≢◌, Bool, true, false, List, [], ◌∷◌, length, get_or, set, ap, Result, Ok, Err, All, IfOk, OnOk, arith, refl, sym, subst}
+use Rattle.std.proofs.Common.{◌≡◌, ◌∙◌, inl, inr, ℕ, suc, ◌+◌, ◌<◌, ◌≤◌, ◌≢◌, Bool, true, false, List, [], ◌∷◌, length, map, get_or, set, ap, Result, Ok, Err, All, IfOk, OnOk, arith, refl, sym, subst}
 use Rattle.std.specs.List.{AllZip, HoldsAt}
 use Rattle.std.proofs.lemmas.Bool.{cases_lt, true≢false}
 use Rattle.std.proofs.lemmas.List.{set-get_or, get_or-set_same, get_or-set_other, get_or_default, length-set}
@@ -23,6 +23,7 @@ use Rattle.wide_list.specs.Bits.{AreSystemBits, AreWideBits}
 use Rattle.wide_list.specs.Laws.{IsOneWideList}
 use Rattle.wide_list.proofs.Same.{one_wide_system}
 use Rattle.wide_list.proofs.Reading.{system_is_valid}
+use Rattle.wide_list.proofs.Blocks.{one_system_block}
 
 -- ---- two lists, related item by item
 
@@ -33,6 +34,13 @@ zip_of R [] (y ∷ ys) size each = absurd (omega (arith, size))
 zip_of R (x ∷ xs) [] size each = absurd (omega (arith, size))
 zip_of R (x ∷ xs) (y ∷ ys) size each =
     (each 0 x y (omega arith), zip_of R xs ys (omega (arith, size)) (λ k d e inside. each (suc k) d e (omega (arith, inside))))
+
+-- a relation to each item's image is one to the list of images
+pub zip_map : {A B C : Type 0} (R : A → C → Type 0) (f : B → C) (xs : List A) (ys : List B) → AllZip (λ x y. R x (f y)) xs ys → AllZip R xs (map f ys)
+zip_map R f [] [] all = tt
+zip_map R f [] (y ∷ ys) all = absurd all
+zip_map R f (x ∷ xs) [] all = absurd all
+zip_map R f (x ∷ xs) (y ∷ ys) all = (all.0, zip_map R f xs ys all.1)
 
 -- ---- one entry
 
@@ -60,6 +68,18 @@ module _ (carrier : Carrier) (wide : Wide) where
       by : (read : Bool) → is_read_wide carrier wide.rate before ≡ read → IfOk after.sib1 IsValid
       by true e = with_fields (x.read e)
       by false e = subst (λ (entry : Entry). IfOk entry.sib1 IsValid) (sym (x.same e)) valid
+
+  -- an entry has one transport block
+  bits_once : (before : Entry) (a b : List Bool) → AreWideBits carrier wide before a → AreWideBits carrier wide before b → a ≡ b
+  bits_once before a b x y = by (is_read_wide carrier wide.rate before) refl
+    where
+      by : (read : Bool) → is_read_wide carrier wide.rate before ≡ read → a ≡ b
+      by true e = one_system_block wide (cell_of before) before.start before.sfn a b (x.read e) (y.read e)
+      by false e = x.empty e ∙ sym (y.empty e)
+
+  -- the entries of a list have one list of transport blocks
+  pub blocks_once : (list : List Entry) (a b : List (List Bool)) → AllZip (AreWideBits carrier wide) list a → AllZip (AreWideBits carrier wide) list b → a ≡ b
+  blocks_once = each_once (AreWideBits carrier wide) bits_once
 
   -- ---- one entry of a list
 
