@@ -29,7 +29,7 @@ from . import evidence as second_evidence
 from . import tune as tune_reference
 from .search import FRAME, RULES, hits, identity, list_lines, listed, ranked, recording
 from .wide_search import KEPT, RATES
-from .wide_search import lines_of
+from .wide_search import lines_of as wide_cells
 from .wide_search import list_lines as wide_lines
 from .wide_slots import narrowed
 
@@ -154,9 +154,12 @@ class Lists(NamedTuple):
             return list_lines(self.samples, listed(self.samples, rule), rule)
         return wide_lines(self.samples, self.rate, rule)
 
-    def blocks(self, words):
-        """Returns for each entry of a list of wide samples the bits of SIB1's block, or None; nothing of others."""
-        return [] if self.rate is None else [line.block for line in lines_of(self.samples, self.rate, RULES[words])]
+    def wide_blocks(self, words):
+        """Returns for each cell of a list the bits of the block from which SIB1 is read in the wide samples, or None."""
+        if self.rate is None:
+            return itertools.repeat(None)
+        found = wide_cells(self.samples, self.rate, RULES[words])
+        return [one.block if one.source in ("frame", "frames") else None for one in found]
 
     @property
     def narrow(self):
@@ -199,29 +202,24 @@ def of_cancel(r):
 # ---- evidence, and a turn
 
 
-def of_evidence(r, words):
-    rule, names = RULES[words], ("identity", "at", "sfn")
+def of_evidence(lists, words):
+    r, rule, names = lists.narrow, RULES[words], ("identity", "at", "sfn")
     found = []
-    for entry, line in zip(listed(r, rule), second_evidence.lines(r, rule)[1:]):
+    for entry, line, block in zip(listed(r, rule), second_evidence.lines(r, rule)[1:], lists.wide_blocks(words)):
         row = line.split()
         numbers = {name: int(word) for name, word in (*zip(names, row), *by_names(row[3:]).items())}
-        found.append(numbers | second_evidence.shown(r, entry, numbers["frame"], rule))
+        shown = second_evidence.shown(r, entry, numbers["frame"], rule)
+        if block is not None:
+            shown["sib1_block"] = second_evidence.hexadecimal("".join(map(str, block)))
+        found.append(numbers | shown)
     return found
 
 
-def of_wide_evidence(lists, words):
-    """The evidence of a list, with the blocks of SIB1 that are read from wide samples."""
-    found = of_evidence(lists.narrow, words)
-    for one, block in zip(found, lists.blocks(words)):
-        one["sib1_block"] = block and second_evidence.hexadecimal("".join(map(str, block)))
-    return found
-
-
-def of_all_evidence(r):
+def of_all_evidence(lists):
     """The cells of all lists, each with its evidence."""
     found = []
     for words, name in NAMES.items():
-        for value, support in zip(of_search(Lists(r), words), of_evidence(r, words), strict=True):
+        for value, support in zip(of_search(lists, words), of_evidence(lists, words), strict=True):
             if any(value[key] != support[key] for key in value.keys() & support.keys()):
                 raise ValueError(value)
             found.append({**value, **support, "rule": name})
@@ -247,9 +245,9 @@ def of_tell(samples):
 
 LISTS = {"search --all --json": of_all}
 LISTS |= {" ".join(["search", *words, "--json"]): functools.partial(of_search, words=words) for words in RULES}
+LISTS |= {" ".join(["evidence", *words, "--json"]): functools.partial(of_evidence, words=words) for words in RULES}
+LISTS["evidence --all --json"] = of_all_evidence
 FORMS = {"hits --json": of_hits, "ids --json": of_ids, "search --cancel --json": of_cancel}
-LISTS |= {" ".join(["evidence", *words, "--json"]): functools.partial(of_wide_evidence, words=words) for words in RULES}
-FORMS["evidence --all --json"] = of_all_evidence
 TEXTS = {"search --all": lines_of_all, "evidence --all": lambda lists: lines_of_all_evidence(lists.narrow)}
 
 

@@ -33,19 +33,27 @@ def is_alike(one, other):
     return (one.mapping, one.run, one.size) == (other.mapping, other.run, other.size)
 
 
+class Found(NamedTuple):
+    """Where SIB1 is read, its lines or why there are none, and the bits of its block or None."""
+
+    source: str
+    text: str
+    block: list | None = None
+
+
 def together(cell, frames, grant):
-    """Returns a grant's block and its lines by all frames that have a grant alike, each by its first."""
+    """Returns the lines of a grant's block by all frames that have a grant alike, each by its first, and its bits."""
     total = np.zeros((grant.size + 28, 3), np.int64)
     for frame in frames:
         own = [other for _, other in frame.answer.grants if is_alike(other, grant)]
         if own:
             total += np.array(block_sums(cell, frame.slots, frame.answer.cfi, own[0]))
     block = decoded(np.clip(total, -MOST_SUM, MOST_SUM).tolist(), grant.size)
-    return block, fields_lines(number(block), grant.size)
+    return fields_lines(number(block), grant.size), block
 
 
 def read_together(cell, frames):
-    """Returns the block and the lines by the first period and grant that give fields together, or None."""
+    """Returns the lines and the block by the first period and grant that give fields together, or None."""
     for period in sorted({frame.period for frame in frames}):
         own = [frame for frame in frames if frame.period == period]
         for _, grant in (pair for frame in own for pair in frame.answer.grants if pair[1].size <= MOST_BITS):
@@ -57,16 +65,12 @@ def read_together(cell, frames):
 
 
 def read_frames(recording, rate, cell, start, sfn):
-    """Returns where SIB1 is read, of a `frame` alone or several `frames` together, else `none`, its lines, or why there
-    are none, and the bits of its block, or None, for a cell whose frame of number `sfn` begins at sample `start` at 1.92
-    million per second."""
+    """Returns the SIB1 of a `frame` alone or several `frames` together, else `none`, for a cell whose frame of number
+    `sfn` begins at sample `start` at 1.92 million per second."""
     frames = []
     for frame in tries(recording, rate, cell, start, sfn):
         if frame.answer.block is not None:
-            return "frame", frame.answer.text, frame.answer.block
+            return Found("frame", frame.answer.text, frame.answer.block)
         frames.append(frame)
     found = read_together(cell, frames)
-    if found is None:
-        return "none", frames[0].answer.text, None
-    block, lines = found
-    return "frames", lines, block
+    return Found("frames", *found) if found else Found("none", frames[0].answer.text)

@@ -19,14 +19,14 @@ KEPT = 326_400  # samples at 1.92 million per second from which a list is made
 
 
 class Line(NamedTuple):
-    """An entry of the list, where SIB1 was read, its lines or why there are none, and the bits of its block, or None. SIB1
-    is read in the recording at 1.92 million samples per second (`narrow`), or in one wide `frame` or several wide `frames`,
-    or nowhere (`none`)."""
+    """An entry of the list, where SIB1 was read, and its lines or why there are none. SIB1 is read in the recording at
+    1.92 million samples per second (`narrow`), or in one wide `frame` or several wide `frames`, or nowhere (`none`).
+    `block` is the bits of its block, or None."""
 
     entry: tuple
     source: str
     text: str
-    block: object
+    block: str | list | None = None
 
 
 def cell_of(entry):
@@ -42,7 +42,7 @@ def line_of(wide, rate, narrow, entry, rule):
     if block is not None:
         return Line(entry, "narrow", text, block)
     if rule == LONG_PREFIX or cell.subcarriers >= 128 << rate:
-        return Line(entry, "none", text, None)
+        return Line(entry, "none", text)
     start, _, sfn, _, _ = entry
     return Line(entry, *read_frames(wide, rate, cell, start, sfn))
 

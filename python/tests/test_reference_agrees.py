@@ -68,7 +68,17 @@ SENT = {
     "1.92": ("--width", "6", "--ports", "4", "--cfi", "3", "--late", "15000", "--sfn", "3"),
     "3.84": ("--width", "50", "--ports", "2", "--rate", "15.36"),  # read at too low a rate
 }
-RATE_FORMS = ("search", "search --ports 2", "search --ports 4 --json", "search --all", "hits --json", "evidence --json")
+RATE_FORMS = (
+    "search",
+    "search --ports 2",
+    "search --ports 4 --json",
+    "search --all",
+    "hits --json",
+    "evidence --json",
+    "evidence --ports 2 --json",
+    "evidence --ports 4 --json",
+    "evidence --all --json",
+)
 
 
 @pytest.mark.slow

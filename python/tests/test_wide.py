@@ -88,7 +88,8 @@ def test_frames_of_a_period_are_read_together():
     cell = Cell(plan.identity, plan.ports, plan.blocks)
     frames = list(wide_frames.tries(samples, 1, cell, 0, 0))
     assert len(frames) == 4 and all(frame.answer.block is None for frame in frames)
-    assert wide_frames.read_together(cell, frames)[1].startswith("sib1 tac 4660 cell 27447297")
+    lines, _ = wide_frames.read_together(cell, frames)
+    assert lines.startswith("sib1 tac 4660 cell 27447297")
 
 
 def test_a_wide_recording_is_listed():

@@ -51,7 +51,7 @@ pub one_report : (report : Report) (output : Output) (signal : Signal) (first se
 one_report Hits output signal first second a b = one_hits output signal.narrow first second a b
 one_report Ids output signal first second a b = one_ids output signal.narrow first second a b
 one_report (Search rule) output signal first second a b = one_search rule output signal first second a b
-one_report (Evidence lists) output signal first second a b = one_evidence lists output signal.narrow first second a b
+one_report (Evidence lists) output signal first second a b = one_evidence lists output signal first second a b
 one_report Tell output signal first second a b = one_decoding output signal.narrow first second a b
 one_report (Why identity carrier) output signal first second a b = one_why identity carrier output signal.narrow first second a b
 

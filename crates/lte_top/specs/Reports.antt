@@ -42,7 +42,7 @@ abbrev pub IsReport : Report → Output → Signal → List ℕ → Type 0
 IsReport Hits output signal text = IsHits output signal.narrow text
 IsReport Ids output signal text = IsIds output signal.narrow text
 IsReport (Search rule) output signal text = IsSearch rule output signal text
-IsReport (Evidence lists) output signal text = IsEvidence lists output signal.narrow text
+IsReport (Evidence lists) output signal text = IsEvidence lists output signal text
 IsReport Tell output signal text = IsTellReport output signal.narrow text
 IsReport (Why identity carrier) output signal text = IsWhy identity carrier output signal.narrow text
 
@@ -65,8 +65,9 @@ kept_for (Evidence lists) = most_samples
 kept_for Tell = most_samples
 kept_for (Why identity carrier) = deciding_length
 
--- the samples at the given rate that a report needs: only the lists of `search` need any
+-- the samples at the given rate that a report needs: only the lists of `search` and the evidence for lists need any
 abbrev pub wide_for : Report → Wide → Option Wide
 wide_for (Search (Of carrier)) wide = Some wide
 wide_for (Search All) wide = Some wide
+wide_for (Evidence lists) wide = Some wide
 wide_for report wide = None

@@ -133,6 +133,7 @@ fn wide_for(report: &Report, wide: WideRecording) -> Option<WideRecording>
     match report {
         Report::Search(Rule::Of(_)) => Some(wide),
         Report::Search(Rule::All) => Some(wide),
+        Report::Evidence(_) => Some(wide),
         _ => None,
     }
 }

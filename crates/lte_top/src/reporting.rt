@@ -59,7 +59,7 @@ fn text_of_report(
         Report::Hits => hits_text(alloc, output, &signal.narrow),
         Report::Ids => ids_text(alloc, output, &signal.narrow),
         Report::Search(rule) => search_text(alloc, rule, output, signal),
-        Report::Evidence(lists) => evidence_report(alloc, lists, output, &signal.narrow),
+        Report::Evidence(lists) => evidence_report(alloc, lists, output, signal),
         Report::Tell => offset_text(alloc, output, &signal.narrow),
         Report::Why(id, carrier) => why_text(alloc, id, carrier, output, &signal.narrow),
     }

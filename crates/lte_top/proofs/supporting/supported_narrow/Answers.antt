@@ -1,5 +1,5 @@
 use Rattle.lte_top.proofs.Carriers.{of_carrier}
-use Rattle.lte_top.proofs.supporting.supported_list.Goals as goal
+use Rattle.lte_top.proofs.supporting.supported_narrow.Goals as goal
 
 pub support_of_list-requires : goal.support_of_list-requires
 support_of_list-requires c = (
