@@ -23,6 +23,8 @@ mod taking;
 pub use at_turn::turned_back;
 pub use candidate::Candidate;
 pub use centred::mean;
-pub use estimation::{Estimation, OffsetEstimate, applied, tell, tell_with_candidates, turn_of, turned};
+pub use estimation::{
+    Estimation, OffsetEstimate, applied, tell, tell_with_candidates, turn_of, turned,
+};
 pub use fraction::Fraction;
 pub use laws::{the_turn_estimated, turned_recordings};

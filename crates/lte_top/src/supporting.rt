@@ -156,11 +156,7 @@ fn supported_wide(
 // ---- all transmission schemes, from one search for PSS detections
 
 // Returns the report on the evidence for each cell in every list, as text or JSON.
-fn evidence_of_all(
-    alloc: Global,
-    output: Output,
-    signal: &Signal,
-) -> Result<String, AllocError>
+fn evidence_of_all(alloc: Global, output: Output, signal: &Signal) -> Result<String, AllocError>
     requires valid { IsRecording signal.now.narrow }
     requires converted { IsConverted signal.now }
     ensures { IfOk result (λ text. IsEvidenceOfAll output signal.now (string_bytes text)) }
