@@ -75,8 +75,8 @@ def lines_together(text):
 
 
 def each_line(text):
-    """Returns a pattern for each line, in any order."""
-    return [exactly(line) for line in text.splitlines()]
+    """Returns a pattern for each line, in any order, without a comma at its end."""
+    return [exactly(line.rstrip(",")) for line in text.splitlines()]
 
 
 NUMBERS = ("t", "peak", "cost", "total", "frames", "frame", "phase", "power", "noise")
@@ -366,6 +366,10 @@ def numpy_looks():
         ),
         Look("crates/accumulated_tests/src/primary_candidates.rt", "$PY -m lte_reference.deep_rows", each_line),
         Look("crates/accumulated_tests/src/secondary_signs.rt", "$PY -m lte_reference.deep_sign_rows", each_line),
+        *(
+            Look(f"crates/wide_tests/src/{file}.rt", f"$PY -m lte_reference.wide_subframes {topic}", each_line)
+            for topic, file in (("alone", "rows"), ("together", "rows"), ("turned", "lists"))
+        ),
         Look(
             "crates/list_tests/src/rounds_of_recordings.rt",
             "$PY -m lte_reference.cell | $PY -m lte_reference.cancel",

@@ -1,5 +1,6 @@
 // The checksum of the reference implementation, `python/lte_reference/wide_rows.py`.
 
+use cs_num::Sample;
 use wide_cell::WidePlace;
 use wide_grid::WideReg;
 
@@ -45,6 +46,15 @@ pub(crate) fn after_blocks(sum: u64, allocated: &[bool]) -> u64 {
         if *is {
             sum = after(sum, block);
         }
+    }
+    sum
+}
+
+pub(crate) fn of_samples(samples: &[Sample]) -> u64 {
+    let mut sum = 0;
+    for sample in samples {
+        sum = after_signed(sum, sample.re as i64);
+        sum = after_signed(sum, sample.im as i64);
     }
     sum
 }

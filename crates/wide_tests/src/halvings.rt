@@ -1,5 +1,5 @@
 // Samples and checksums are from the reference implementation, `python/lte_reference/wide_rows.py`.
-use crate::checksum::after_signed;
+use crate::checksum::of_samples;
 use crate::samples::drawn;
 use cs_num::Sample;
 use halving::halve;
@@ -15,15 +15,6 @@ fn halved(alloc: Global, samples: &[Sample]) -> Result<Vec<Sample>, AllocError> 
     }
 }
 
-fn checksum(samples: &[Sample]) -> u64 {
-    let mut sum = 0;
-    for sample in samples {
-        sum = after_signed(sum, sample.re as i64);
-        sum = after_signed(sum, sample.im as i64);
-    }
-    sum
-}
-
 // The checksum of 4,096 drawn samples, halved once, twice, three and four times.
 const HALVED: [u64; 4] = [2_191_954_506, 4_071_407_861, 1_169_882_518, 1_577_295_804];
 
@@ -33,7 +24,10 @@ fn halved_samples_are_the_references(rt: HostRuntime) -> Result<(), Fail> {
     for (i, expected) in HALVED.iter().enumerate() {
         samples = halved(rt.alloc(), &samples)?;
         assert!(rt; samples.len() == 2048 >> i, "halved {i} times before");
-        assert!(rt; checksum(&samples) == *expected, "halved {i} times before");
+        assert!(rt;
+            of_samples(&samples) == *expected,
+            "halved {i} times before"
+        );
     }
     Ok(())
 }

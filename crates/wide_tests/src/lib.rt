@@ -1,5 +1,6 @@
 //! Tests of cells of any bandwidth against the reference implementation: resource elements of the control and shared
-//! channels, grants, halved recordings, received slots, and soft values.
+//! channels, grants, halved recordings, received slots, and soft values; and what is read in subframes that the reference
+//! implementation sends.
 #![tactic(auto)]
 
 #[cfg(test)]
@@ -15,12 +16,20 @@ mod halvings;
 #[cfg(test)]
 mod inits;
 #[cfg(test)]
+mod lists;
+#[cfg(test)]
 mod narrow;
 #[cfg(test)]
 mod places;
 #[cfg(test)]
+mod rows;
+#[cfg(test)]
 mod samples;
 #[cfg(test)]
+mod sender;
+#[cfg(test)]
 mod slots;
+#[cfg(test)]
+mod systems;
 #[cfg(test)]
 mod values;

@@ -26,6 +26,31 @@ pub(crate) fn rate_of(bandwidth: Bandwidth) -> u8
     }
 }
 
+// Returns slot `number` of the frame that begins at sample `frame` at 1.92 million samples per second.
+pub(crate) fn received_in(
+    alloc: Global,
+    tones: &Tones,
+    wide: &WideRecording,
+    cell: &WideCell,
+    frame: usize,
+    number: u8,
+) -> Result<Option<WideSlot>, AllocError>
+    requires frame { frame < 100000 }
+    requires number { number < 20 }
+    ensures cell { IfOk result (λ found. IfSome found (λ slot. slot.cell ≡ cell.now)) }
+    ensures number { IfOk result (λ found. IfSome found (λ slot. slot.slot.number ≡ number)) }
+{
+    let rate = wide.rate();
+    let last = wide_start(rate, frame, number, 6);
+    let length = wide.as_slice().len();
+    if fits_rate(cell, rate) && last <= length && points(rate) <= length - last {
+        let slot = WideSlot::receive(alloc, tones, wide, cell, frame, number, Weights::SMOOTHING)?;
+        Ok(Some(slot))
+    } else {
+        Ok(None)
+    }
+}
+
 // Returns slot `number` of the frame with which a recording begins.
 pub(crate) fn received(
     alloc: Global,
@@ -37,15 +62,7 @@ pub(crate) fn received(
     requires { number < 20 }
     ensures { IfOk result (λ found. IfSome found (λ slot. slot.cell ≡ cell.now)) }
 {
-    let rate = wide.rate();
-    let last = wide_start(rate, 0, number, 6);
-    let length = wide.as_slice().len();
-    if fits_rate(cell, rate) && last <= length && points(rate) <= length - last {
-        let slot = WideSlot::receive(alloc, tones, wide, cell, 0, number, Weights::SMOOTHING)?;
-        Ok(Some(slot))
-    } else {
-        Ok(None)
-    }
+    received_in(alloc, tones, wide, cell, 0, number)
 }
 
 fn after_number(sum: u64, number: Cpx) -> u64 {
