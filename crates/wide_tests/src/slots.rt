@@ -27,6 +27,7 @@ pub(crate) fn rate_of(bandwidth: Bandwidth) -> u8
 }
 
 // Returns slot `number` of the frame that begins at sample `frame` at 1.92 million samples per second.
+#[tactic(auto, unfolding(wide_slot::specs::Slot::seen_slot))]
 pub(crate) fn received_in(
     alloc: Global,
     tones: &Tones,
