@@ -12,7 +12,7 @@ use lte_types::{CellId, FRAME_LENGTH, Half};
 use sample_file::Recording;
 use sss_detect::cell_id;
 
-// The greatest ratio, of one half-frame.
+// 1, in the unit of a ratio.
 const ONE: u64 = 1 << 24;
 
 /// A cell that is detected over many half-frames. (own)
@@ -24,7 +24,7 @@ pub struct DetectedCell {
     pub n2: u8,
     /// The physical-layer cell identity.
     pub id: CellId,
-    /// The half-frame that half-frames of even number are.
+    /// The half of a frame, 0 or 5 by its first subframe, to which half-frames of even number belong.
     pub half: Half,
     /// The sample at which a frame of the cell starts, modulo the 19,200 samples of a frame.
     pub start: u32,

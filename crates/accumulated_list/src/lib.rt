@@ -1,5 +1,4 @@
-//! The list of cells that are detected over many half-frames, down to levels far below that of the strongest cell:
-//! candidates of the primary signals at which the secondary signal is detected, without echoes.
+//! The list of cells that are detected over many half-frames: candidates of the primary signals at which the secondary signal is detected, without echoes.
 //! Tests: none yet.
 #![tactic(auto)]
 

@@ -12,8 +12,8 @@ use accumulated_pss::{Accumulated, accumulate, candidates};
 use sample_file::Recording;
 use std::alloc::{AllocError, Global};
 
-/// Lists the cells that are detected in the first `halves` half-frames, 1 to `half_frames`, in order of position, then of
-/// primary signal. Within 137 samples, an identity is listed once. Fails only if an allocation fails. (own)
+/// Lists the cells detected in the first `halves` half-frames, by position, then primary signal, except those that a
+/// detected cell with their identity precedes within 137 positions. Fails only if an allocation fails. (own)
 pub fn list_accumulated(
     alloc: Global,
     recording: &Recording,

@@ -24,7 +24,7 @@ pub(crate) const FIRST_POSITION: usize = 137;
 // How many samples the positions of a half-frame reach into the next one.
 const BEYOND: usize = 264;
 
-// The greatest ratio.
+// 1, in the unit of a ratio.
 const ONE: u64 = 1 << 24;
 
 /// Returns the number of half-frames that can be accumulated: those in which each position, 137 to 9,736, has a
@@ -53,8 +53,8 @@ impl Model for Accumulated {
     ghost view = { λ a. a.first ∷ a.second ∷ a.third ∷ [] };
 }
 
-/// Accumulates the first `halves` half-frames, at most `half_frames` of them: at each position and for each primary
-/// signal the sum of peak / (energy * power), in parts of 2^24. Fails only if an allocation fails. (own)
+/// Accumulates the first `halves` half-frames: at each position and for each primary signal the sum of
+/// peak / (energy * power / 2^24 + 1), both quotients rounded down. Fails only if an allocation fails. (own)
 pub fn accumulate(
     alloc: Global,
     recording: &Recording,

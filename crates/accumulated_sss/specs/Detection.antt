@@ -20,8 +20,9 @@ signal_sum recording halves t n2 n1 half =
 abbrev pub above_0 : ℤ → ℕ
 above_0 z = if int_lt z (pos 0) then 0 else nat_abs z
 
--- the power of 24 pilots, from the sum of the 62 products of each half-frame: in the mean a product is the primary
--- signal's power times 8,128 |g|^2, and a pilot has the squared magnitude (8,128 |g|)^2, where g is the cell's gain
+-- about the energy of 24 received reference signals, from the sum of the 62 products of each half-frame: in the mean a
+-- product is the primary signal's power times 8,128 |g|^2, and such an element has about the squared magnitude
+-- (8,128 |g|)^2, where g is the cell's gain
 abbrev pub power_of : ℕ → ℕ → ℤ → ℕ
 power_of halves n2 sum = 24 * 8128 * above_0 sum / (62 * halves * wave_power n2)
 

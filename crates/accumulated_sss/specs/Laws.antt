@@ -47,6 +47,6 @@ CoincidencesAreCounted = (signs : ℕ → ℤ) → AreSigns 124 signs → coinci
 abbrev pub CoincidencesAreFew : Type 0
 CoincidencesAreFew = (signs : ℕ → ℤ) → coincidences 124 93 signs ≤ coincidence_count
 
--- a law: over 192 candidates with 336 pairs each, 64,512 comparisons in all, it is at most one pattern in 1,400
+-- a law: 64,512 times this number, for 192 candidates with 336 pairs each, is at most one 1,400th of all patterns
 abbrev pub CoincidencesAreRare : Type 0
 CoincidencesAreRare = 64512 * 1400 * coincidence_count ≤ 2 ^ 124

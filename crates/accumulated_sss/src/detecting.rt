@@ -28,16 +28,16 @@ const LEAST_MATCHES: u8 = 93;
 pub struct Detection {
     /// The identity group, 0 to 167.
     pub n1: u16,
-    /// The half-frame that half-frames of even number are.
+    /// The half of a frame, 0 or 5 by its first subframe, to which half-frames of even number belong.
     pub half: Half,
     /// How many of 124 signs match, 93 to 124.
     pub matches: u8,
-    /// The power of the cell's 24 pilots in a slot, in the unit of a demodulated value's square.
+    /// About the energy of 24 received reference signals of the cell, in the unit of a demodulated value's square.
     pub power: u64,
 }
 
-/// Detects a cell at position `t`, 137 to 9,736, of the primary signal `n2`, 0 to 2, in the first `halves` half-frames,
-/// which the recording covers. Returns `None` if fewer than 93 of 124 signs match. (own)
+/// Detects a cell at position `t`, 137 to 9,736, of the primary signal `n2` in the first `halves` half-frames, at least
+/// one, which the recording covers. Returns `None` if fewer than 93 of 124 signs match. (own)
 pub fn detect(recording: &Recording, halves: usize, t: usize, n2: u8) -> Option<Detection>
     requires first { symbol_step normal ≤ t }
     requires last { t ≤ 9736 }

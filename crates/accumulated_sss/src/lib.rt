@@ -9,12 +9,13 @@ mod matching;
 mod rows;
 mod votes;
 
-ghost use Rattle.accumulated_sss.specs.Laws.{DetectionIsRight, OnlyOneDetection, CoveredSamplesDecide, PatternsAreAll, CoincidencesAreCounted, CoincidencesAreFew, CoincidencesAreRare};
+ghost use Rattle.accumulated_sss.specs.Laws.{DetectionIsRight, OnlyOneDetection, CoveredSamplesDecide};
+ghost use Rattle.accumulated_sss.specs.Laws.{PatternsAreAll, CoincidencesAreCounted, CoincidencesAreFew, CoincidencesAreRare};
 
 pub use detecting::{Detection, detect};
 
-/// A law: `detect` returns exactly the detection at a candidate, and there is at most one. The samples that the
-/// half-frames cover decide it.
+/// A law: `detection_at`, which `detect` returns, is exactly the detection at a position, and there is at most one. The
+/// samples that the half-frames cover decide it.
 pub fn detection_is_right()
     ensures right { DetectionIsRight }
     ensures only { OnlyOneDetection }
@@ -22,7 +23,7 @@ pub fn detection_is_right()
 {}
 
 /// A law: whatever 124 signs are given, 234,004,971,861,876,424,919,930,303,080 of the 2^124 patterns match them in at
-/// least 93 positions, and not more if some are 0. In 64,512 comparisons this is at most one pattern in 1,400.
+/// least 93 positions, and not more if some are 0; 64,512 times this number is at most one 1,400th of 2^124.
 pub fn coincidences_are_rare()
     ensures all { PatternsAreAll }
     ensures counted { CoincidencesAreCounted }

@@ -65,7 +65,8 @@ kept_for (Evidence lists) = most_samples
 kept_for Tell = most_samples
 kept_for (Why identity carrier) = deciding_length
 
--- the samples at the given rate that a report needs: only the lists of `search` and the evidence for lists need any
+-- the samples at the given rate that a report keeps: those of `search` for its lists and of `evidence`, whose text does
+-- not use them
 abbrev pub wide_for : Report → Wide → Option Wide
 wide_for (Search (Of carrier)) wide = Some wide
 wide_for (Search All) wide = Some wide
