@@ -33,7 +33,7 @@ REACH = 9  # a candidate has no greater accumulated correlation at this distance
 CANDIDATES = 64  # of each primary signal
 SIGNS = 93  # of 124 that agree with the secondary signals of a cell
 ONE = 2**24  # the greatest ratio
-ECHO = 137  # distance within which a cell is listed once
+ECHO = 137  # distance within which a detection that another of its identity precedes is not listed
 WAVES = [wave(n2) for n2 in range(3)]
 POWERS = [int((p * p + q * q).sum()) for p, q in WAVES]
 # the parts of 128 samples, first real, then imaginary, to the real and imaginary parts of the sums with conj p(n)
@@ -132,7 +132,7 @@ def signs_of(values, energy):
 
 
 def power(values, n2, n1, half):
-    """Returns the mean square of the pilots that a cell of this level has, as `evidence` gives it."""
+    """Returns about the energy of the 24 pilots that a cell of this level has, as `evidence` gives it."""
     rows = np.array([secondary(n1, n2, (half, 5 - half)[h % 2]) for h in range(len(values))])
     total = sum((rows * values).ravel().tolist())
     return max(0, 24 * 8_128 * total) // (62 * len(values) * POWERS[n2])

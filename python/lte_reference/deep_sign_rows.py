@@ -5,8 +5,8 @@ write it: the recording, the position, N2 and the number of half-frames, and the
 and the power of the detection, or four times 0 if there is none.
 
 A recording has 57,600 samples, each the sum of noise, a constant in both components and a cell's two signals. The noise
-is drawn: components from -level to level, in order re, im, sample. In half-frame h, counted from position t, the secondary symbol begins at t - 137
-and the primary symbol at t, each 128 samples times the gain.
+is drawn: components from -level to level, in order re, im, sample. In half-frame h the secondary symbol begins at
+t - 137 + 9,600h and the primary symbol at t + 9,600h, each 128 samples times the gain.
 """
 from typing import NamedTuple
 

@@ -84,8 +84,8 @@ class CellDifference(Answer):
 
 @dataclass(frozen=True)
 class Difference(Answer):
-    """Two surveys: names that tell them apart, the unit of levels, the side of squares in metres and how many both pass, None without
-    tracks, the cells, and of each square the strongest cell's numbers in both."""
+    """Two surveys: names that tell them apart, the unit of levels, the side of squares in metres and how many both pass,
+    None without tracks, the cells, and of each square the strongest cell's numbers in both."""
 
     before: str
     after: str
