@@ -277,6 +277,7 @@ def of_forms(recording, files, by_name=lines_together):
 
 TESTS = "crates/top_tests/src/"
 NAMED = TESTS + "evidence_of_cells.rt"  # looks most numbers up by their names
+PLAIN = "$PY -m lte_reference.cell < examples/plain_cell.json"
 PLAIN_FORMS = (
     ("hits --json", TESTS + "hits.rt"),
     ("ids --json", TESTS + "ids.rt"),
@@ -285,8 +286,11 @@ PLAIN_FORMS = (
     ("search --all", TESTS + "search_all.rt"),
     ("search --cancel --json", TESTS + "search_cancel.rt"),
     ("evidence --all", TESTS + "evidence_all.rt"),
+    ("ids --deep", TESTS + "deep.rt"),
+    ("ids --deep --json", TESTS + "deep.rt"),
     ("tell --json", TESTS + "tell_and_apply.rt"),
 )
+LONG_FORMS = (("ids --deep", TESTS + "deep.rt"), ("ids --deep all", TESTS + "deep.rt"))
 TWO_PORTS_FORMS = (
     ("search --ports 2 --json", TESTS + "search_two_ports.rt"),
     ("evidence --ports 2 --json", TESTS + "evidence_of_cells.rt"),
@@ -308,6 +312,8 @@ SHOWN_FORMS = (
     ("hits --json", "docs/FORMATS.md"),
     ("search --json", "docs/FORMATS.md"),
     ("search --all", "docs/FORMATS.md"),
+    ("ids --deep", "docs/FORMATS.md"),
+    ("ids --deep --json", "docs/FORMATS.md"),
     ("ids --json", OUTPUTS + "ids.json"),
     ("evidence --json", OUTPUTS + "evidence.json"),
     ("search --cancel --json", OUTPUTS + "search_cancel.json"),
@@ -449,7 +455,9 @@ def numpy_looks():
         for name, keys, words in SENT_FORMS
     ]
     found += [*shown("README.md"), *shown("docs/FORMATS.md")]
-    found += of_forms("$PY -m lte_reference.cell < examples/plain_cell.json", PLAIN_FORMS)
+    found += of_forms(PLAIN, PLAIN_FORMS)
+    found += of_forms(f"{{ {PLAIN}; $PY -m lte_reference.two_ports 90; }}", [("ids --deep", TESTS + "deep.rt")])
+    found += of_forms(f"for i in 1 2 3 4 5 6; do {PLAIN}; done", LONG_FORMS)
     found += of_forms("$PY -m lte_reference.two_ports 90", TWO_PORTS_FORMS, named_numbers)
     found += of_forms("$PY -m lte_reference.four_ports 90", FOUR_PORTS_FORMS, named_numbers)
     found += of_forms("$PY -m lte_reference.long_prefix 90", LONG_PREFIX_FORMS, named_numbers)

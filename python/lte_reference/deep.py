@@ -1,10 +1,10 @@
 #!/usr/bin/python3
-"""python3 -m lte_reference.deep [all] < RECORDING
+"""python3 -m lte_reference.deep [all] [--json] < RECORDING
 
-A second program for a list that is accumulated over half-frames: identities of cells far below the strongest one
-(docs/DECISIONS.md, "Accumulated half-frames"). Of `search.py` it shares the tables and the primary signal alone. Every
-number is whole: sums of products run in doubles where they stay below 2^53, else in 64 bits or more. It takes half a
-second for 17 frames, three seconds for a second. Debian: python3-numpy.
+A second program for `ids --deep`, a list that is accumulated over half-frames: identities of cells far below the
+strongest one (docs/DEFINITION.md, "Accumulated half-frames"). Of `search.py` it shares the tables and the primary
+signal alone. Every number is whole: sums of products run in doubles where they stay below 2^53, else in 64 bits or
+more. It takes half a second for 17 frames, three seconds for a second. Debian: python3-numpy.
 
 The rules, over K half-frames of 9,600 samples; C, E, P, p, s and seen are those of docs/DEFINITION.md, rules 1 to 3:
 
@@ -19,6 +19,7 @@ The rules, over K half-frames of 9,600 samples; C, E, P, p, s and seen are those
    of several the one of subframe 0, then of the lowest N1. With 93 matches it is a detection.
 6. A detection is listed unless one that precedes it as in 3 has the same identity at a distance of at most 137.
 """
+import json
 import sys
 from typing import NamedTuple
 
@@ -176,21 +177,41 @@ def listed(r, halves=None):
 
 
 def line(entry):
-    at = f"cell {entry.identity} at {entry.start} t {entry.t}"
-    return f"{at} signs {entry.signs} ratio {entry.ratio} power {entry.power}"
+    place = f"{entry.t} {entry.identity} {entry.half} {entry.start}"
+    return f"{place} matches {entry.signs} ratio {entry.ratio} power {entry.power}"
 
 
-def lines(r, halves=None):
-    halves = half_frames(min(len(r), KEPT)) if halves is None else halves
+def lines(r, span=KEPT):
+    """Returns the lines of the list over the half-frames of the first samples."""
+    halves = half_frames(min(len(r), span))
     found = listed(r, halves)
     return [f"deep {len(found)} of {halves}"] + [line(entry) for entry in found]
 
 
+def cell(entry):
+    return {
+        "at": entry.start,
+        "identity": entry.identity,
+        "matches": entry.signs,
+        "power": entry.power,
+        "ratio": entry.ratio,
+        "subframe": entry.half,
+        "t": entry.t,
+    }
+
+
+def value(r, span=KEPT):
+    """Returns what the JSON of the list over the half-frames of the first samples has."""
+    halves = half_frames(min(len(r), span))
+    return {"cells": [cell(entry) for entry in listed(r, halves)], "half_frames": halves}
+
+
 def main(words):
-    if words not in ([], ["all"]):
+    if words not in ([], ["all"], ["--json"], ["all", "--json"]):
         sys.exit(__doc__)
     r = recording()
-    print("\n".join(lines(r, half_frames(len(r)) if words else None)))
+    span = len(r) if "all" in words else KEPT
+    print(json.dumps(value(r, span), separators=(",", ":")) if "--json" in words else "\n".join(lines(r, span)))
 
 
 if __name__ == "__main__":

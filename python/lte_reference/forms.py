@@ -5,6 +5,7 @@ A second program for what stands in docs/FORMATS.md for these words: it prints w
 the last ones.
 
     hits --json, ids --json
+    ids --deep [all], ids --deep [all] --json
     evidence [--ports 2 | --ports 4 | --prefix long | --all] --json
     search [--ports 2 | --ports 4 | --prefix long | --cancel | --all] --json
     evidence --all, search --all
@@ -25,6 +26,7 @@ from typing import NamedTuple
 import numpy as np
 
 from . import cancel as second_cancel
+from . import deep
 from . import evidence as second_evidence
 from . import tune as tune_reference
 from .search import FRAME, RULES, hits, identity, list_lines, listed, ranked, recording
@@ -248,7 +250,12 @@ LISTS |= {" ".join(["search", *words, "--json"]): functools.partial(of_search, w
 LISTS |= {" ".join(["evidence", *words, "--json"]): functools.partial(of_evidence, words=words) for words in RULES}
 LISTS["evidence --all --json"] = of_all_evidence
 FORMS = {"hits --json": of_hits, "ids --json": of_ids, "search --cancel --json": of_cancel}
+FORMS |= {"ids --deep --json": deep.value, "ids --deep all --json": lambda r: deep.value(r, len(r))}
 TEXTS = {"search --all": lines_of_all, "evidence --all": lambda lists: lines_of_all_evidence(lists.narrow)}
+TEXTS |= {
+    "ids --deep": lambda lists: deep.lines(lists.narrow),
+    "ids --deep all": lambda lists: deep.lines(lists.narrow, len(lists.narrow)),
+}
 
 
 def main():

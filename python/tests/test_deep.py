@@ -40,8 +40,13 @@ def test_counts_half_frames(samples, halves):
 def test_lists_the_shipped_recording():
     assert deep.lines(shipped()) == [
         "deep 1 of 5",
-        "cell 271 at 14200 t 5432 signs 124 ratio 999 power 39622277833",
+        "5432 271 5 14200 matches 124 ratio 999 power 39622277833",
     ]
+
+
+def test_has_the_list_as_json():
+    found = {"at": 14_200, "identity": 271, "matches": 124, "power": 39_622_277_833, "ratio": 999}
+    assert deep.value(shipped()) == {"cells": [found | {"subframe": 5, "t": 5_432}], "half_frames": 5}
 
 
 def test_lists_a_cell_far_below_the_noise():

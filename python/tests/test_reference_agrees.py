@@ -15,6 +15,8 @@ FORMS = (
     "search",
     "hits --json",
     "ids --json",
+    "ids --deep",
+    "ids --deep all --json",
     "evidence --json",
     "search --json",
     "search --all --json",

@@ -28,7 +28,7 @@ rated() { # rated < FORMS: each form with each rate, and without
 }
 
 receiver() {
-    printf '%s\n' {hits,ids}{' --json',}{' --format cu8',} | rated
+    printf '%s\n' {hits,ids,'ids --deep'{' all',}}{' --json',}{' --format cu8',} | rated
     printf '%s\n' search{' --ports 2',' --ports 4',' --prefix long',' --cancel',' --all',}{' --json',}{' --format cu8',} |
         rated
     printf '%s\n' evidence{' --ports 2',' --ports 4',' --prefix long',' --all',}{' --json',}{' --format cu8',} | rated

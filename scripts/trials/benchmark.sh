@@ -85,12 +85,12 @@ done
         done
     done
     for samples in 57600 1920000; do
-        for form in search+{--ports+2,--ports+4,--prefix+long,--cancel,--all} \
+        for form in ids+--deep{,+all} search+{--ports+2,--ports+4,--prefix+long,--cancel,--all} \
             evidence{,+--ports+2,+--ports+4,+--prefix+long,+--all} {why+271,certify}+{--ports+2,--ports+4,--prefix+long}; do
             echo "$form cell.$samples 0 one cell, $samples samples"
         done
     done
-    for form in {hits,ids,search,evidence}+--json {search,evidence}+{--ports+2,--ports+4,--prefix+long}+--json \
+    for form in {hits,ids,ids+--deep,search,evidence}+--json {search,evidence}+{--ports+2,--ports+4,--prefix+long}+--json \
         search+{--cancel,--all}+--json evidence+--all+--json why+271+--json; do
         echo "$form cell.57600 0 one cell, 57600 samples"
     done

@@ -50,6 +50,7 @@ CARRIERS = (
 )  # of `make`, `transmit`, `evidence`, `certify`
 LISTS = (["--cancel"], ["--all"])  # of `search`; the second also of `evidence`
 RULES = (*CARRIERS[1:], *LISTS)
+SPANS = (["--deep"], ["--deep", "all"])  # of `ids`
 REPORTS = ("hits", "ids", "search", "evidence", "tell")  # that `--json` stands behind
 RATES = {"1.92": 1, "3.84": 2, "7.68": 4, "15.36": 8, "30.72": 16}  # each with its multiple of 1.92 million per second
 PAGES = ("help", "--help", "-h", "version", "--version")
@@ -78,6 +79,8 @@ def words(random, command):
         front += [turn] * (turn != "")
     elif command == "search" and random.random() < 0.35:
         front += random.choice(RULES)
+    elif command == "ids" and random.random() < 0.5:
+        front += random.choices([*SPANS, ["all"], ["--deep", "1"]], [48, 48, 2, 2])[0]
     elif command == "evidence" and random.random() < 0.35:
         front += random.choices(RULES, [25, 25, 25, 2, 23])[0]
     elif command == "certify" and random.random() < 0.35:
@@ -130,7 +133,7 @@ def is_form(given):
         rest = rest[:-1]
     if command == "apply" and len(rest) == 1:
         return is_turn(rest[0])
-    rules = {"search": RULES, "evidence": (*CARRIERS, ["--all"]), "certify": CARRIERS}
+    rules = {"ids": SPANS, "search": RULES, "evidence": (*CARRIERS, ["--all"]), "certify": CARRIERS}
     return rest == [] or rest in rules.get(command, ())
 
 

@@ -63,7 +63,7 @@ def forms(program):
     recording = CELL.read_bytes()
     certificates = run(program, ["certify"], recording)[1]
     evidence = (f"evidence {rule}" for rule in (*CARRIERS, "--all"))
-    for words in ("hits", "ids", *(f"search {rule}" for rule in RULES), *evidence):
+    for words in ("hits", "ids", "ids --deep", "ids --deep all", *(f"search {rule}" for rule in RULES), *evidence):
         yield from of_both(words, recording)
         yield from of_both(words + " --json", recording)
     for rule in CARRIERS:

@@ -6,9 +6,10 @@ use crate::inputs::Input;
 pub type Form = (&'static str, Input);
 
 /// The reports as text.
-pub const REPORTS: [Form; 4] = [
+pub const REPORTS: [Form; 5] = [
     ("hits", Input::Cell16),
     ("ids", Input::Cell16),
+    ("ids --deep", Input::Cell16),
     ("search", Input::Cell16),
     ("evidence", Input::Cell16),
 ];
@@ -31,9 +32,10 @@ pub const OF_8_BITS: [Form; 5] = [
 ];
 
 /// The forms that read 8-bit samples and write JSON.
-pub const OF_8_BITS_AS_JSON: [Form; 4] = [
+pub const OF_8_BITS_AS_JSON: [Form; 5] = [
     ("hits --json --format cu8", Input::Cell8),
     ("ids --json --format cu8", Input::Cell8),
+    ("ids --deep all --json --format cu8", Input::Cell8),
     ("search --json --format cu8", Input::Cell8),
     ("evidence --json --format cu8", Input::Cell8),
 ];

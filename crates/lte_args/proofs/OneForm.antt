@@ -18,7 +18,9 @@ use Rattle.lte_args.specs.declared.form.Rate.TheVariants.{Times1, Times2, Times4
 use Rattle.lte_args.specs.declared.form.RecordingForm.{RecordingForm}
 use Rattle.lte_args.specs.declared.form.Form.{Form}
 use Rattle.lte_args.specs.declared.form.Form.TheVariants.{Report as Reports, Certify, Check, Transmit, Make, Apply, Print}
-use Rattle.lte_args.specs.declared.form.Report.TheVariants.{Hits, Ids, Search, Evidence, Tell, Why}
+use Rattle.lte_args.specs.declared.form.Report.TheVariants.{Hits, Ids, Deep, Search, Evidence, Tell, Why}
+use Rattle.lte_args.specs.declared.form.Span.{Span}
+use Rattle.lte_args.specs.declared.form.Span.TheVariants.{First, All as AllSamples}
 use Rattle.lte_args.specs.declared.form.Lists.{Lists}
 use Rattle.lte_args.specs.declared.form.Lists.TheVariants.{Of as ListOf, All as AllLists}
 use Rattle.lte_args.specs.declared.form.Rule.{Rule}
@@ -29,7 +31,7 @@ use Rattle.lte_args.specs.declared.form.Turn.{Turn}
 use Rattle.lte_args.specs.declared.form.Turn.TheVariants.{AsEstimated, Steps}
 use Rattle.lte_args.specs.declared.form.Page.{Page}
 use Rattle.lte_args.specs.declared.form.Page.TheVariants.{Help, Version}
-use Rattle.lte_args.specs.Words.{samples_words, rate_word, rate_words, recording_words, output_words, rule_words, carrier_words, lists_words, load_words, turn_words, ArePageWords, AreWordsOf, IsAskedLoad, IsTurn, IsAskedTurn, IsInRange, program_of, IsWordsOf}
+use Rattle.lte_args.specs.Words.{samples_words, rate_word, rate_words, recording_words, output_words, rule_words, carrier_words, lists_words, load_words, span_words, turn_words, ArePageWords, AreWordsOf, IsAskedLoad, IsTurn, IsAskedTurn, IsInRange, program_of, IsWordsOf}
 
 -- whether the argument is this word
 abbrev is_word : List ℕ → List ℕ → Bool
@@ -183,7 +185,48 @@ rule_before of Text form = by_parts form.samples form.rate
     by_parts Cu8 rate = refl
 rule_before of Json form = refl
 
+abbrev span_in : (Span → List (List ℕ) → Form) → List (List ℕ) → Form
+span_in of [] = of First []
+span_in of (word ∷ words) = if is_word word (codes "all") then of AllSamples words else of First (word ∷ words)
+
+span_back : (of : Span → List (List ℕ) → Form) (span : Span) (rest : List (List ℕ)) → span_in of rest ≡ of First rest →
+    span_in of (span_words span ++ rest) ≡ of span rest
+span_back of First rest usual = usual
+span_back of AllSamples rest usual = refl
+
+span_before : (of : Span → List (List ℕ) → Form) (output : Output) (form : RecordingForm) →
+    span_in of (output_words output ++ recording_words form) ≡ of First (output_words output ++ recording_words form)
+span_before of Text form = by_parts form.samples form.rate
+  where
+    by_parts : (samples : SampleForm) (rate : Option Rate) → span_in of (samples_words samples ++ rate_words rate) ≡ of First (samples_words samples ++ rate_words rate)
+    by_parts Ci16 None = refl
+    by_parts Ci16 (Some rate) = refl
+    by_parts Cu8 rate = refl
+span_before of Json form = refl
+
 -- ---- the parts of a command
+
+abbrev detected_by : Span → List (List ℕ) → Form
+detected_by span words = report_in (Reports (Deep span)) words
+
+deep_back : (span : Span) (output : Output) (form : RecordingForm) → span_in detected_by (span_words span ++ output_words output ++ recording_words form) ≡ Reports (Deep span) output form
+deep_back span output form =
+    ap (span_in detected_by) (append_assoc (span_words span) (output_words output) (recording_words form))
+    ∙ span_back detected_by span (output_words output ++ recording_words form) (span_before detected_by output form) ∙ report_back (Reports (Deep span)) output form
+
+abbrev ids_in : List (List ℕ) → Form
+ids_in [] = report_in (Reports Ids) []
+ids_in (word ∷ words) = if is_word word (codes "--deep") then span_in detected_by words else report_in (Reports Ids) (word ∷ words)
+
+-- the arguments after `ids` without `--deep`
+ids_back : (output : Output) (form : RecordingForm) → ids_in (output_words output ++ recording_words form) ≡ Reports Ids output form
+ids_back Text form = by_parts form.samples form.rate ∙ report_back (Reports Ids) Text form
+  where
+    by_parts : (samples : SampleForm) (rate : Option Rate) → ids_in (samples_words samples ++ rate_words rate) ≡ report_in (Reports Ids) (samples_words samples ++ rate_words rate)
+    by_parts Ci16 None = refl
+    by_parts Ci16 (Some rate) = refl
+    by_parts Cu8 rate = refl
+ids_back Json form = report_back (Reports Ids) Json form
 
 abbrev searched_by : Rule → List (List ℕ) → Form
 searched_by rule words = report_in (Reports (Search rule)) words
@@ -299,7 +342,7 @@ abbrev form_of : Program → List (List ℕ) → Form
 form_of program [] = Check
 form_of program (word ∷ words) =
     if is_word word (codes "hits") then report_in (Reports Hits) words
-    else if is_word word (codes "ids") then report_in (Reports Ids) words
+    else if is_word word (codes "ids") then ids_in words
     else if is_word word (codes "search") then rule_in searched_by words
     else if is_word word (codes "evidence") then lists_in supported_by words
     else if is_word word (codes "why") then why_in words
@@ -322,7 +365,8 @@ form_of_page program Version words (inr e) = ap (form_of program) e
 
 form_of_words : (form : Form) (words : List (List ℕ)) → AreWordsOf form words → IsInRange form → form_of (program_of form) words ≡ form
 form_of_words (Reports Hits output form) words e within = ap (form_of (program_of (Reports Hits output form))) e ∙ report_back (Reports Hits) output form
-form_of_words (Reports Ids output form) words e within = ap (form_of (program_of (Reports Ids output form))) e ∙ report_back (Reports Ids) output form
+form_of_words (Reports Ids output form) words e within = ap (form_of (program_of (Reports Ids output form))) e ∙ ids_back output form
+form_of_words (Reports (Deep span) output form) words e within = ap (form_of (program_of (Reports (Deep span) output form))) e ∙ deep_back span output form
 form_of_words (Reports (Search rule) output form) words e within = ap (form_of (program_of (Reports (Search rule) output form))) e ∙ search_back rule output form
 form_of_words (Reports (Evidence lists) output form) words e within = ap (form_of (program_of (Reports (Evidence lists) output form))) e ∙ evidence_back lists output form
 form_of_words (Reports Tell output form) words e within = ap (form_of (program_of (Reports Tell output form))) e ∙ report_back (Reports Tell) output form

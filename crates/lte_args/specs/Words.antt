@@ -15,7 +15,9 @@ use Rattle.lte_args.specs.declared.form.Form.{Form}
 use Rattle.lte_args.specs.declared.form.Form.TheVariants.{Report as Reports, Certify, Check, Transmit, Make}
 use Rattle.lte_args.specs.declared.form.Form.TheVariants.{Apply, Print}
 use Rattle.lte_args.specs.declared.form.Report.{Report}
-use Rattle.lte_args.specs.declared.form.Report.TheVariants.{Hits, Ids, Search, Evidence, Tell, Why}
+use Rattle.lte_args.specs.declared.form.Report.TheVariants.{Hits, Ids, Deep, Search, Evidence, Tell, Why}
+use Rattle.lte_args.specs.declared.form.Span.{Span}
+use Rattle.lte_args.specs.declared.form.Span.TheVariants.{First, All as AllSamples}
 use Rattle.lte_args.specs.declared.form.Lists.{Lists}
 use Rattle.lte_args.specs.declared.form.Lists.TheVariants.{Of as ListOf, All as AllLists}
 use Rattle.lte_args.specs.declared.form.Rule.{Rule}
@@ -81,6 +83,11 @@ abbrev pub load_words : Option ℕ → List (List ℕ)
 load_words None = []
 load_words (Some n) = codes "--load" ∷ decimal n ∷ []
 
+-- the arguments that select the samples of `ids --deep`; none for the first 170 ms, the default
+abbrev pub span_words : Span → List (List ℕ)
+span_words First = []
+span_words AllSamples = codes "all" ∷ []
+
 -- the arguments that select a report's cell lists
 abbrev pub lists_words : Lists → List (List ℕ)
 lists_words (ListOf carrier) = carrier_words carrier
@@ -92,10 +99,12 @@ rule_words (Of carrier) = lists_words (ListOf carrier)
 rule_words Cancel = codes "--cancel" ∷ []
 rule_words All = lists_words AllLists
 
--- the arguments of a report: its command, then its cell identity, rule, lists or transmission scheme, if it has one
+-- the arguments of a report: its command, then, if it has them, its samples, cell identity, rule, lists or transmission
+-- scheme
 abbrev pub report_words : Report → List (List ℕ)
 report_words Hits = codes "hits" ∷ []
 report_words Ids = codes "ids" ∷ []
+report_words (Deep span) = codes "ids" ∷ codes "--deep" ∷ span_words span
 report_words (Search rule) = codes "search" ∷ rule_words rule
 report_words (Evidence lists) = codes "evidence" ∷ lists_words lists
 report_words Tell = codes "tell" ∷ []

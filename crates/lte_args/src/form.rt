@@ -5,8 +5,8 @@ ghost use Rattle.lte_args.specs.Words.{name_of, exponent_of, IsWordsOf, IsNoForm
 ghost use Rattle.lte_args.specs.declared.form.Program.TheVariants.{Receiver, Tuner};
 
 use crate::parts::{
-    apply_parts, certify_parts, evidence_parts, is_only, make_parts, page_of, report_parts,
-    search_parts, transmit_parts, why_parts,
+    apply_parts, certify_parts, deep_parts, evidence_parts, is_only, make_parts, page_of,
+    report_parts, search_parts, transmit_parts, why_parts,
 };
 use crate::words::Words;
 use lte_types::{Carrier, CellId};
@@ -113,6 +113,8 @@ pub enum Report {
     Hits,
     /// `ids`: the PSS detections, each with its cell identity and frame start.
     Ids,
+    /// `ids --deep`: the cells that are detected over many half-frames.
+    Deep(Span),
     /// `search`: the cell list under a rule.
     Search(Rule),
     /// `evidence`: the evidence for each listed cell.
@@ -121,6 +123,15 @@ pub enum Report {
     Tell,
     /// `why PCI`: the reasons why a cell identity is in the cell list of a transmission scheme, or is not.
     Why(CellId, Carrier),
+}
+
+/// The samples that `ids --deep` uses.
+#[derive(Clone, Copy, Debug, PartialEq, Eq)]
+pub enum Span {
+    /// The first 170 ms, the default.
+    First,
+    /// `all`: all samples of a recording without a rate. With a rate, the first 170 ms too.
+    All,
 }
 
 /// Which cell lists a report covers: one, or all.
@@ -193,6 +204,8 @@ fn of_receiver(words: &[String]) -> Option<Form>
         Some(Form::Report(Report::Hits, output, recording))
     } else if let Some((output, recording)) = report_parts(words, "ids") {
         Some(Form::Report(Report::Ids, output, recording))
+    } else if let Some((span, output, recording)) = deep_parts(words) {
+        Some(Form::Report(Report::Deep(span), output, recording))
     } else if let Some((rule, output, recording)) = search_parts(words) {
         Some(Form::Report(Report::Search(rule), output, recording))
     } else if let Some((lists, output, recording)) = evidence_parts(words) {

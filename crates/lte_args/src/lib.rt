@@ -8,5 +8,5 @@ mod numbers;
 mod parts;
 mod words;
 
-pub use form::{Form, Lists, Output, Page, Program, Rate, RecordingForm, Report, Rule, Turn};
+pub use form::{Form, Lists, Output, Page, Program, Rate, RecordingForm, Report, Rule, Span, Turn};
 pub use words::Words;

@@ -11,12 +11,13 @@ ghost use Rattle.lte_args.specs.declared.form.Lists.{Lists as ListsValue};
 ghost use Rattle.lte_args.specs.declared.form.Output.{Output as OutputValue};
 ghost use Rattle.lte_args.specs.declared.form.Page.{Page as PageValue};
 ghost use Rattle.lte_args.specs.declared.form.Rule.{Rule as RuleValue};
+ghost use Rattle.lte_args.specs.declared.form.Span.{Span as SpanValue};
 ghost use Rattle.lte_args.specs.declared.form.Turn.{Turn as TurnValue};
 ghost use Rattle.lte_args.specs.Words.{samples_words, rate_words, recording_words, output_words, rule_words};
-ghost use Rattle.lte_args.specs.Words.{rate_word, carrier_words, lists_words, load_words, turn_words};
+ghost use Rattle.lte_args.specs.Words.{rate_word, carrier_words, lists_words, load_words, span_words, turn_words};
 ghost use Rattle.lte_args.specs.Words.{BeginsWithNo, IsAskedLoad, IsAskedTurn, ArePageWords};
 
-use crate::form::{Lists, Output, Page, Rate, RecordingForm, Rule, Turn};
+use crate::form::{Lists, Output, Page, Rate, RecordingForm, Rule, Span, Turn};
 use crate::numbers::{identity_of, number_of, steps_of};
 use lte_types::{Carrier, CellId};
 use sample_file::SampleForm;
@@ -72,6 +73,17 @@ fn carrier_in(words: &[String]) -> (Carrier, &[String])
         (Carrier::LongPrefix, rest)
     } else {
         (Carrier::OnePort, words)
+    }
+}
+
+// Parses the samples that `ids --deep` uses; the default is the first 170 ms.
+fn span_in(words: &[String]) -> (Span, &[String])
+    ensures named { map string_bytes words.now ≡ span_words result.0 ++ map string_bytes result.1.now }
+    ensures unnamed { span_words result.0 ≡ [] → BeginsWithNo span_words (map string_bytes words.now) }
+{
+    match after(words, "all") {
+        Some(rest) => (Span::All, rest),
+        None => (Span::First, words),
     }
 }
 
@@ -190,6 +202,20 @@ pub(crate) fn report_parts(words: &[String], command: &str) -> Option<(Output, R
 {
     let words = after(words, command)?;
     output_of(words)
+}
+
+// Parses `ids --deep`: the samples that it uses, its output format and recording form.
+pub(crate) fn deep_parts(words: &[String]) -> Option<(Span, Output, RecordingForm)>
+    ensures some { IfSome result (λ parts. map string_bytes words.now ≡
+        codes "ids" ∷ codes "--deep" ∷ span_words parts.0 ++ output_words parts.1 ++ recording_words parts.2) }
+    ensures none { IsNone result → (span : SpanValue) (output : OutputValue) (form : RecordingFormValue) →
+        map string_bytes words.now ≡
+        codes "ids" ∷ codes "--deep" ∷ span_words span ++ output_words output ++ recording_words form → ⊥ }
+{
+    let words = after_two(words, "ids", "--deep")?;
+    let (span, words) = span_in(words);
+    let (output, recording) = output_of(words)?;
+    Some((span, output, recording))
 }
 
 // Parses `search`: its rule, output format and recording form.

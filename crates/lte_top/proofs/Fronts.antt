@@ -33,7 +33,7 @@ use Rattle.lte_args.specs.declared.form.Rate.{Rate}
 use Rattle.lte_args.specs.declared.form.RecordingForm.{RecordingForm}
 use Rattle.lte_args.specs.declared.form.Form.TheVariants.{Report as Reports}
 use Rattle.lte_args.specs.declared.form.Report.{Report}
-use Rattle.lte_args.specs.declared.form.Report.TheVariants.{Hits, Ids, Search, Evidence, Tell, Why}
+use Rattle.lte_args.specs.declared.form.Report.TheVariants.{Hits, Ids, Deep, Search, Evidence, Tell, Why}
 use Rattle.lte_args.specs.declared.form.Rule.TheVariants.{Of, Cancel, All as AllLists}
 use Rattle.lte_args.specs.declared.form.Output.{Output}
 use Rattle.lte_args.specs.declared.form.Output.TheVariants.{Text, Json}
@@ -46,6 +46,7 @@ use Rattle.lte_top.specs.Run.{HasOutput}
 use Rattle.evidence.specs.Receivers.{receiver_of}
 use Rattle.lte_top.specs.Searching.{FirstFramesDecideEach, IsListOf}
 use Rattle.lte_top.proofs.Carriers.{list_holds}
+use Rattle.lte_top.proofs.Deep.{kept_deep}
 use Rattle.lte_top.proofs.Ending.{recording_unrefused}
 
 -- ---- lists
@@ -141,6 +142,7 @@ kept_report Hits Text samples text valid is = is ∙ ap hits_text (kept_hits sam
 kept_report Hits Json samples text valid is = is ∙ ap (λ hits. as_line (hits_json (map measured hits))) (kept_hits samples)
 kept_report Ids Text samples text valid is = is ∙ ap ids_text (kept_ids samples)
 kept_report Ids Json samples text valid is = is ∙ ap (λ found. as_line (ids_json found)) (kept_measured samples)
+kept_report (Deep span) output samples text valid is = kept_deep span output samples text is
 kept_report (Search (Of carrier)) output samples text valid is =
     record { entries = is.entries; is_list = list_decides carrier samples is.entries valid is.is_list; text_is = is.text_is }
 kept_report (Search AllLists) output samples text valid is =
@@ -170,6 +172,7 @@ wide_report : (report : Report) (output : Output) (samples : List Sample) (wide 
     IsReport report output (record { narrow = samples; wide = Some wide }) text
 wide_report Hits output samples wide text is = is
 wide_report Ids output samples wide text is = is
+wide_report (Deep span) output samples wide text is = is
 wide_report (Search (Of carrier)) output samples wide text is = is
 wide_report (Search Cancel) output samples wide text is = is
 wide_report (Search AllLists) output samples wide text is = is

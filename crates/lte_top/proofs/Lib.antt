@@ -1,5 +1,6 @@
 pub mod OneList
 pub mod SupportedLists
+pub mod Deep
 pub mod Checked
 pub mod Transmitted
 pub mod Ending

@@ -14,7 +14,7 @@ use Rattle.lte_args.specs.declared.form.Rate.{Rate}
 use Rattle.lte_args.specs.Words.{exponent_of}
 use Rattle.reasons.proofs.OneReason.{one_reason}
 use Rattle.lte_args.specs.declared.form.Report.{Report}
-use Rattle.lte_args.specs.declared.form.Report.TheVariants.{Hits, Ids, Search, Evidence, Tell, Why}
+use Rattle.lte_args.specs.declared.form.Report.TheVariants.{Hits, Ids, Deep, Search, Evidence, Tell, Why}
 use Rattle.lte_args.specs.declared.form.Output.{Output}
 use Rattle.lte_args.specs.declared.form.Output.TheVariants.{Text, Json}
 use Rattle.lte_args.specs.declared.form.Turn.{Turn}
@@ -26,6 +26,7 @@ use Rattle.lte_top.specs.Why.{IsWhy, why_text}
 use Rattle.lte_top.specs.Tuning.{IsTurnedAsBytes}
 use Rattle.lte_top.proofs.OneList.{one_line, one_search}
 use Rattle.lte_top.proofs.SupportedLists.{one_evidence}
+use Rattle.lte_top.proofs.Deep.{one_deep}
 
 one_hits : (output : Output) (samples : List Sample) (first second : List ℕ) → IsHits output samples first → IsHits output samples second → first ≡ second
 one_hits Text samples first second a b = a ∙ sym b
@@ -50,6 +51,7 @@ one_why identity carrier output samples first second a b =
 pub one_report : (report : Report) (output : Output) (signal : Signal) (first second : List ℕ) → IsReport report output signal first → IsReport report output signal second → first ≡ second
 one_report Hits output signal first second a b = one_hits output signal.narrow first second a b
 one_report Ids output signal first second a b = one_ids output signal.narrow first second a b
+one_report (Deep span) output signal first second a b = one_deep span output signal.narrow first second a b
 one_report (Search rule) output signal first second a b = one_search rule output signal first second a b
 one_report (Evidence lists) output signal first second a b = one_evidence lists output signal first second a b
 one_report Tell output signal first second a b = one_decoding output signal.narrow first second a b

@@ -3,6 +3,7 @@ pub mod Line
 pub mod Signals
 pub mod Searching
 pub mod Supporting
+pub mod Deep
 pub mod Certificates
 pub mod Reports
 pub mod Pages

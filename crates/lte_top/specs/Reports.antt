@@ -8,7 +8,7 @@ use Rattle.hit_details.specs.Details.{identified, measured, measured_id}
 use Rattle.report_text.specs.Hits.{hits_text, ids_text}
 use Rattle.report_json.specs.Hits.{hits_json, ids_json}
 use Rattle.lte_args.specs.declared.form.Report.{Report}
-use Rattle.lte_args.specs.declared.form.Report.TheVariants.{Hits, Ids, Search, Evidence, Tell, Why}
+use Rattle.lte_args.specs.declared.form.Report.TheVariants.{Hits, Ids, Deep, Search, Evidence, Tell, Why}
 use Rattle.lte_args.specs.declared.form.Rule.{Rule}
 use Rattle.lte_args.specs.declared.form.Rule.TheVariants.{Of, Cancel, All}
 use Rattle.lte_args.specs.declared.form.Output.{Output}
@@ -18,6 +18,7 @@ use Rattle.report_text.specs.Offset.{IsTellText}
 use Rattle.explain.specs.Deciding.{deciding_length}
 use Rattle.lte_top.specs.Line.{as_line, IsLine}
 use Rattle.lte_top.specs.declared.reading.Signal.{Signal}
+use Rattle.lte_top.specs.Deep.{IsDeep, used_length}
 use Rattle.lte_top.specs.Searching.{IsSearch}
 use Rattle.lte_top.specs.Supporting.{IsEvidence}
 use Rattle.lte_top.specs.Why.{IsWhy}
@@ -41,6 +42,7 @@ IsTellReport Json samples text = IsLine (IsTellJson samples) text
 abbrev pub IsReport : Report → Output → Signal → List ℕ → Type 0
 IsReport Hits output signal text = IsHits output signal.narrow text
 IsReport Ids output signal text = IsIds output signal.narrow text
+IsReport (Deep span) output signal text = IsDeep span output signal.narrow text
 IsReport (Search rule) output signal text = IsSearch rule output signal text
 IsReport (Evidence lists) output signal text = IsEvidence lists output signal text
 IsReport Tell output signal text = IsTellReport output signal.narrow text
@@ -60,6 +62,7 @@ kept_for_list All = deciding_length
 abbrev pub kept_for : Report → ℕ
 kept_for Hits = least_samples
 kept_for Ids = least_samples
+kept_for (Deep span) = used_length span
 kept_for (Search rule) = kept_for_list rule
 kept_for (Evidence lists) = most_samples
 kept_for Tell = most_samples

@@ -1,6 +1,7 @@
 //! Laws about the commands' answers and outputs.
 
 ghost use Rattle.lte_top.specs.Applied.{WhatIsAppliedIsEstimated};
+ghost use Rattle.lte_top.specs.Deep.{FirstFramesDecideDeep};
 ghost use Rattle.lte_top.specs.Found.{WhatIsSentIsFound};
 ghost use Rattle.lte_top.specs.Searching.{FirstFramesDecideEach};
 ghost use Rattle.lte_top.specs.Making.{WhatIsMadeIsHeld};
@@ -31,9 +32,10 @@ pub fn what_is_made_is_held()
 }
 
 /// A law: two recordings that agree in their first 326,400 samples (17 frames) have the same list under each
-/// transmission scheme. `search` without `--cancel` therefore keeps no later sample.
+/// transmission scheme, and the same `ids --deep`. `search` without `--cancel` therefore keeps no later sample.
 pub fn the_first_frames_decide_each_list()
-    ensures { FirstFramesDecideEach }
+    ensures each { FirstFramesDecideEach }
+    ensures deep { FirstFramesDecideDeep }
 {}
 
 /// A law: the output of `apply` is a valid recording, and has as many cells as `tell` reports.

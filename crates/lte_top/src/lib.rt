@@ -5,6 +5,7 @@
 #![tactic(auto)]
 
 mod certifying;
+mod detecting;
 mod laws;
 mod making;
 mod pages;
@@ -25,7 +26,7 @@ pub use laws::{
     what_is_made_is_held, what_is_sent_is_found,
 };
 pub use lte_args::{
-    Form, Lists, Output, Page, Program, Rate, RecordingForm, Report, Rule, Turn, Words,
+    Form, Lists, Output, Page, Program, Rate, RecordingForm, Report, Rule, Span, Turn, Words,
 };
 pub use process::run_process;
 pub use status::Status;

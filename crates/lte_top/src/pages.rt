@@ -14,6 +14,8 @@ usage: lte_cli COMMAND [RULE] [--json] [--format cu8] [--rate R] < INPUT > OUTPU
 hits [--json] [--format cu8] [--rate R]: the places of primary synchronisation signals in a recording
   --rate R: of the first 170 ms, at R million samples per second: 1.92, 3.84, 7.68, 15.36 or 30.72
 ids [--json] [--format cu8] [--rate R]: the same with the cell identity and the frame start that each tells
+ids --deep [all] [--json] [--format cu8] [--rate R]: the cells that are detected over the half-frames of the first 170 ms
+  all: over those of the whole recording, if there is no rate
 search [RULE] [--json] [--format cu8] [--rate R]: the list of cells of a recording
   --ports 2: of those with two antenna ports
   --ports 4: of those with four antenna ports

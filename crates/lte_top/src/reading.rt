@@ -15,6 +15,7 @@ ghost use Rattle.lte_top.specs.Reports.{wide_for as wide_in};
 ghost use Rattle.lte_top.specs.Run.{Cause, HasOutput};
 ghost use Rattle.lte_top.specs.Signals.{plain, rated, HasReadNarrow, HasReadWide, IsConverted};
 
+use crate::detecting::used_length;
 use crate::status::Status;
 use cs_num::Sample;
 use cs_outside::Source;
@@ -106,6 +107,7 @@ fn kept_for(report: &Report) -> usize
     match report {
         Report::Hits => LEAST_SAMPLES,
         Report::Ids => LEAST_SAMPLES,
+        Report::Deep(span) => used_length(*span),
         Report::Search(rule) => kept_for_list(*rule),
         Report::Evidence(_) => MOST_SAMPLES,
         Report::Tell => MOST_SAMPLES,

@@ -11,6 +11,7 @@ ghost use Rattle.lte_top.specs.Run.{Cause, HasOutput};
 ghost use Rattle.lte_top.specs.Signals.{IsConverted};
 ghost use Rattle.lte_args.specs.declared.form.Form.TheVariants.{Report as Reports};
 
+use crate::detecting::deep_report;
 use crate::reading::{Signal, signal_for};
 use crate::reasoning::why_text;
 use crate::searching::search_text;
@@ -58,6 +59,7 @@ fn text_of_report(
     match report {
         Report::Hits => hits_text(alloc, output, &signal.narrow),
         Report::Ids => ids_text(alloc, output, &signal.narrow),
+        Report::Deep(span) => deep_report(alloc, span, output, &signal.narrow),
         Report::Search(rule) => search_text(alloc, rule, output, signal),
         Report::Evidence(lists) => evidence_report(alloc, lists, output, signal),
         Report::Tell => offset_text(alloc, output, &signal.narrow),

@@ -16,6 +16,8 @@ mod cells;
 #[cfg(test)]
 mod certify_and_check;
 #[cfg(test)]
+mod deep;
+#[cfg(test)]
 mod evidence_all;
 #[cfg(test)]
 mod evidence_of_cells;

@@ -27,6 +27,7 @@ fn each_report_takes_each_rate(rt: HostRuntime) -> Result<(), Fail> {
         (Program::Receiver, "hits"),
         (Program::Receiver, "hits --json --format cu8"),
         (Program::Receiver, "ids --json"),
+        (Program::Receiver, "ids --deep all --json"),
         (Program::Receiver, "search"),
         (Program::Receiver, "search --ports 2 --format cu8"),
         (Program::Receiver, "search --ports 4 --json"),
@@ -113,6 +114,7 @@ fn each_report_of_silence(rt: HostRuntime) -> Result<(), Fail> {
     for (front, report) in [
         ("hits", "hits 0\n"),
         ("ids --json", "[]\n"),
+        ("ids --deep all", "deep 0 of 5\n"),
         ("search --ports 2", "cells 0\n"),
         ("search --ports 4 --json", "[]\n"),
         ("search --prefix long", "cells 0\n"),
@@ -242,7 +244,11 @@ fn have_the_same_reports(rt: &impl Abort, alloc: Global, fronts: &[&str]) -> Res
 
 #[test]
 fn hits_and_reasons_at_1_92(rt: HostRuntime) -> Result<(), Fail> {
-    have_the_same_reports(&rt, rt.alloc(), &["hits", "ids --json", "why 3"])
+    have_the_same_reports(
+        &rt,
+        rt.alloc(),
+        &["hits", "ids --json", "ids --deep", "why 3"],
+    )
 }
 
 #[test]

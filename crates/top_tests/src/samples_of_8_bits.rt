@@ -20,6 +20,7 @@ fn each_report_reads_8_bit_numbers(rt: HostRuntime) -> Result<(), Fail> {
         ("evidence --format cu8", "evidence 0\n"),
         ("hits --json --format cu8", "[]\n"),
         ("ids --json --format cu8", "[]\n"),
+        ("ids --deep --format cu8", "deep 0 of 5\n"),
         ("evidence --json --format cu8", "[]\n"),
         ("search --ports 2 --format cu8", "cells 0\n"),
         ("search --ports 2 --json --format cu8", "[]\n"),

@@ -16,6 +16,22 @@ ids --format cu8 --rate R
 ids --format cu8
 ids --rate R
 ids
+ids --deep all --json --format cu8 --rate R
+ids --deep all --json --format cu8
+ids --deep all --json --rate R
+ids --deep all --json
+ids --deep all --format cu8 --rate R
+ids --deep all --format cu8
+ids --deep all --rate R
+ids --deep all
+ids --deep --json --format cu8 --rate R
+ids --deep --json --format cu8
+ids --deep --json --rate R
+ids --deep --json
+ids --deep --format cu8 --rate R
+ids --deep --format cu8
+ids --deep --rate R
+ids --deep
 search --ports 2 --json --format cu8 --rate R
 search --ports 2 --json --format cu8
 search --ports 2 --json --rate R
