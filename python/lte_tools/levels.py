@@ -40,7 +40,7 @@ CLOSE = 3  # seconds on either side of a step in which a cell is compared
 def power_of(task: Task, samples: radio.Complex) -> Power:
     """Returns the power of a window with these samples in dBFS."""
     x = samples - samples.mean()
-    total, floor = float(np.mean(np.abs(x) ** 2)), spectrum.floor_of(x, task.file.rate)
+    total, floor = float(np.mean(x.real**2 + x.imag**2)), spectrum.floor_of(x, task.file.rate)
     return Power(round(task.start, 6), rounded(total), rounded(floor))
 
 

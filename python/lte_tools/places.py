@@ -10,15 +10,18 @@ import dataclasses
 import datetime
 import json
 import pathlib
-from typing import Any, Sequence
+from typing import TYPE_CHECKING, Any, Sequence
 
 from . import gpsd, survey_windows, track
+from .drives import Stretch
 from .machine import Refused, note
 from .options import SurveyOptions
-from .radio_file import RadioFile, Stretch
 from .survey_data import Seen, Survey, SurveyCell, Track, timestamp
 from .survey_windows import Window
 from .track import Track as Places
+
+if TYPE_CHECKING:
+    from .radio_file import RadioFile
 
 DIGITS = 7  # of a degree: a centimetre
 

@@ -7,6 +7,7 @@ import struct
 
 import numpy as np
 import pytest
+from scipy.signal import resample_poly
 
 import lte_tools
 from lte_tools import check_certificate, live, machine, picture_style, radio, stream, to_ci16
@@ -77,6 +78,13 @@ def test_words_that_are_no_numbers(tool, word):
 def test_ratio_of_rates():
     assert to_ci16.ratio_of(2_400_000) == to_ci16.Fraction(5, 4)
     assert float(to_ci16.ratio_of(2_400_001)) == pytest.approx(2_400_001 / 1.92e6, rel=1e-6)
+
+
+@pytest.mark.parametrize("rate", (2_400_000, 1_920_000, 960_000, 20_000_000))
+def test_components_are_resampled_by_themselves(rate):
+    draw, ratio = np.random.default_rng(3), to_ci16.ratio_of(rate)
+    x = draw.standard_normal((10_001, 2)) @ (1, 1j)
+    assert np.array_equal(to_ci16.resampled(x, ratio), resample_poly(x, ratio.denominator, ratio.numerator))
 
 
 def test_noise(binary, recording):

@@ -6,6 +6,7 @@ import io
 import json
 import os
 import re
+import sys
 import xml.etree.ElementTree
 
 import pytest
@@ -87,6 +88,11 @@ def without_sib1(survey, identity, **keys):
         for cell in survey.cells
     )
     return dataclasses.replace(survey, cells=tuple(cells))
+
+
+def test_survey_that_is_read_needs_no_filter(command):
+    code = "import sys; from lte_tools import programs, survey_outputs; print('scipy' in sys.modules)"
+    assert command(sys.executable, "-c", code) == b"False\n"
 
 
 @pytest.mark.parametrize(
