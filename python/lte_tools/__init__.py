@@ -1,17 +1,17 @@
 """Tools over lte_cli and lte_tune: surveys, pictures, captures and conversions of radio recordings.
 
-From Python, `lte_tools.search`, `why`, `hits`, `ids`, `evidence`, `tell`, `transmit` and `survey` run the programs and
-return frozen dataclasses (docs/NOTEBOOKS.md).
+From Python, `lte_tools.search`, `why`, `hits`, `ids`, `deep`, `evidence`, `tell`, `transmit` and `survey` run the programs
+and return frozen dataclasses (docs/NOTEBOOKS.md).
 """
 import importlib
 from typing import TYPE_CHECKING, Any
 
-from .answers import Cell, CellEvidence, Evidence, Hit, Identity, Sib1, Tuning
+from .answers import Cell, CellEvidence, Deep, DetectedCell, Evidence, Hit, Identity, Sib1, Tuning
 from .machine import ProgramRefused, Refused
 from .options import SurveyOptions
-from .programs import Answers, Transmission, evidence, hits, ids, search, tell, transmit, why
+from .programs import Answers, Transmission, deep, evidence, hits, ids, search, tell, transmit, why
 from .reasons import Listed, NoHit, NoMib, NoRoom, OtherIdentity, Reason, Why
-from .survey_data import Seen, Survey, SurveyCell
+from .survey_data import Detected, Seen, Survey, SurveyCell, SurveyIdentity
 
 if TYPE_CHECKING:
     from .programs import survey
@@ -20,6 +20,9 @@ __all__ = [
     "Answers",
     "Cell",
     "CellEvidence",
+    "Deep",
+    "Detected",
+    "DetectedCell",
     "Evidence",
     "Hit",
     "Identity",
@@ -35,10 +38,12 @@ __all__ = [
     "Sib1",
     "Survey",
     "SurveyCell",
+    "SurveyIdentity",
     "SurveyOptions",
     "Transmission",
     "Tuning",
     "Why",
+    "deep",
     "evidence",
     "hits",
     "ids",

@@ -150,6 +150,33 @@ class Identity(Answer):
 
 
 @dataclass(frozen=True)
+class DetectedCell(Answer):
+    """A cell that is detected over many half-frames (`lte_cli ids --deep`): physical-layer cell identity 0 to 503, frame
+    start `at` in samples, sample `t` of half-frame 0 and `subframe` (0 or 5) of its primary signal there, `matches` of 124
+    signs, mean `ratio` of peak to energy in thousandths, and `power`, the sum over 24 reference elements."""
+
+    at: int
+    identity: int
+    matches: int
+    power: int
+    ratio: int
+    subframe: int
+    t: int
+
+
+@dataclass(frozen=True)
+class Deep(Answer):
+    """The answer of `lte_cli ids --deep`: the cells, and the number of half-frames over which they are detected."""
+
+    cells: tuple[DetectedCell, ...]
+    half_frames: int
+
+    def to_rows(self) -> list[dict[str, Any]]:
+        """Returns a row for each cell, for pandas.DataFrame."""
+        return [one.to_row() for one in self.cells]
+
+
+@dataclass(frozen=True)
 class Cell(Answer):
     """A line of a cell list (`lte_cli search`): frame start `at` in samples, physical-layer cell identity, frame number
     `sfn`, the MIB, and SIB1 or the reason `no_sib1`; `rule` names the list where all were asked."""

@@ -6,7 +6,7 @@ from __future__ import annotations
 
 import collections
 import dataclasses
-from typing import Sequence, TypeVar
+from typing import TYPE_CHECKING, Sequence, TypeVar
 
 import numpy as np
 
@@ -14,6 +14,9 @@ from . import radio
 from .answers import Cell
 from .sightings import CYCLE, DEAR, NEAR, Sighting, distance, saying
 from .survey_data import Echo
+
+if TYPE_CHECKING:
+    from .identities import DeepSighting
 
 CLOCK = 100e-6  # by which a radio's clock may be off
 SAME_PATH = 1.1  # microseconds by which a path's delay may change
@@ -27,6 +30,7 @@ class SeenCell:
     def __init__(self, first: Sighting) -> None:
         self.seen = [first]
         self.repeats: int | None = None
+        self.detected: list[DeepSighting] = []  # in windows that do not list it (identities.py)
 
     def add(self, one: Sighting) -> None:
         self.seen.append(one)

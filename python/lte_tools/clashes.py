@@ -14,7 +14,7 @@ from typing import Mapping, NamedTuple, Sequence
 from . import survey_windows
 from .answers import Answer
 from .columns import Column
-from .survey_data import Seen, Survey, SurveyCell
+from .survey_data import Detected, Seen, Survey, SurveyCell, SurveyIdentity
 from .survey_windows import Window
 
 MODULI = (3, 6, 30)
@@ -57,8 +57,8 @@ class Clash(Answer):
 class Pair(NamedTuple):
     """What a window has of two cells."""
 
-    one: Seen
-    other: Seen
+    one: Seen | Detected
+    other: Seen | Detected
 
     @property
     def difference(self) -> float | None:
@@ -76,18 +76,18 @@ def clashes_of(survey: Survey, within: float) -> list[Clash]:
     if no window has both. False detections do not count."""
     pairs = pairs_of(survey_windows.windows_of(survey))
     numbers: dict[int, set[int]] = {}
-    for number, other in [*pairs, *namesakes(survey.cells)]:
+    for number, other in [*pairs, *namesakes(survey.lines)]:
         numbers.setdefault(number, set()).add(other)
     found, clashing = [], Clashing(survey, within, survey_windows.letters_of(survey))
     for number in sorted(numbers):
-        cell, others = survey.cells[number], [(other, survey.cells[other]) for other in sorted(numbers[number])]
+        cell, others = survey.lines[number], [(other, survey.lines[other]) for other in sorted(numbers[number])]
         same = [(other, one) for other, one in others if one.shift == cell.shift]
         own = [clashing.clash((number, other), pairs.get((number, other), [])) for other, _ in same]
         found += sorted((one for one in own if one.windows or one.word == "PCI"), key=lambda one: -one.windows)
     return found
 
 
-def namesakes(cells: Sequence[SurveyCell]) -> list[tuple[int, int]]:
+def namesakes(cells: Sequence[SurveyCell | SurveyIdentity]) -> list[tuple[int, int]]:
     """Returns pairs of numbers of cells that have one identity, each pair both ways round."""
     by_identity: dict[int, list[int]] = {}
     for number, cell in enumerate(cells):
@@ -97,11 +97,11 @@ def namesakes(cells: Sequence[SurveyCell]) -> list[tuple[int, int]]:
 
 
 def pairs_of(windows: Sequence[Window]) -> dict[tuple[int, int], list[Pair]]:
-    """Returns by the numbers of two cells what the windows have that list both."""
+    """Returns by the numbers of two cells what the windows have that list or detect both."""
     found: dict[tuple[int, int], list[Pair]] = {}
     for window in windows:
-        for one in window.sure:
-            for other in window.sure:
+        for one in window.present:
+            for other in window.present:
                 if one is not other:
                     found.setdefault((one.number, other.number), []).append(Pair(one.seen, other.seen))
     return found
@@ -116,7 +116,7 @@ class Clashing(NamedTuple):
 
     def clash(self, numbers: tuple[int, int], pairs: Sequence[Pair]) -> Clash:
         """Returns what two cells have in common, by their numbers and the windows that list both."""
-        cell, other = (self.survey.cells[number] for number in numbers)
+        cell, other = (self.survey.lines[number] for number in numbers)
         letter, other_letter = (self.letters.get(number) for number in numbers)
         near = [pair for pair in pairs if pair.difference is not None and abs(pair.difference) <= self.within]
         return Clash(

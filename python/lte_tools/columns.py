@@ -13,7 +13,7 @@ from dataclasses import dataclass
 from typing import Callable, Generic, TypeVar, Union
 
 from .rules import BY_NAME
-from .survey_data import Survey, SurveyCell
+from .survey_data import Survey, SurveyCell, SurveyIdentity
 
 Value = Union[str, int, float, None]
 Row = TypeVar("Row")
@@ -373,12 +373,22 @@ COLUMNS: tuple[Column[SurveyCell, Survey], ...] = (
         "the number of the cell within the eNodeB, from SIB1",
         lambda cell, survey: cell.sib1.sector if cell.sib1 else None,
     ),
+    Column(
+        "detected",
+        "detected",
+        "",
+        None,
+        "with `--deep`, the number of further windows in which the cell is detected and not listed",
+        lambda cell, survey: len(cell.detected),
+        lambda cell, survey: str(len(cell.detected) or ""),
+    ),
     Column("sfn", None, "", None, "frame number at `first`", lambda cell, survey: cell.seen[0].sfn),
     Column("datetime", None, "", None, "date and time of `first`", lambda cell, survey: cell.datetime),
 )
 CSV_KEYS = """file identity rule first last windows of ports bandwidth duration resource plmn tac cell band level unit
 ratio offset ppm share chance echo echo_level enodeb sector sfn no_sib1 datetime frequency earfcn
 ratio_least ratio_greatest noise total doubts repeats""".split()
+DEEP_KEYS = ["detected", "below", "matches"]  # of a survey with cells that no list has
 BY_KEY = {column.key: column for column in COLUMNS if column.key}
 BY_HEADING = {column.heading: column for column in COLUMNS if column.heading is not None}
 # of a page with a map
@@ -386,6 +396,76 @@ MAP_MEANINGS = {
     "map": "letter on the map, for a cell that is the strongest at some position",
     "strongest at": "latitude and longitude of the cell's strongest window",
 }
+
+
+# of cells of which the identity alone is known
+IDENTITY_COLUMNS: tuple[Column[SurveyIdentity, Survey], ...] = (
+    Column("file", None, "", None, "the file's name", lambda line, survey: survey.file),
+    Column("frequency", None, "Hz", None, "the carrier's frequency", lambda line, survey: survey.carrier),
+    Column("identity", "PCI", "", None, "physical-layer cell identity, 0 to 503", lambda line, survey: line.identity),
+    Column("rule", None, "", None, "`identity-only`: no list has the cell", lambda line, survey: line.rule),
+    Column("first", "first s", "s", 2, "start of its first frame in the first window", lambda line, survey: line.first),
+    Column("last", "last s", "s", 2, "start of its first frame in the last window", lambda line, survey: line.last),
+    Column(
+        "windows",
+        "windows",
+        "",
+        None,
+        "number of windows that detect the cell, and number of all windows",
+        lambda line, survey: line.windows,
+        lambda line, survey: f"{line.windows}/{survey.windows}",
+    ),
+    Column("of", None, "", None, "number of all windows", lambda line, survey: survey.windows),
+    Column(
+        "level",
+        "level",
+        "dBFS",
+        None,
+        "level of a reference element in the strongest window",
+        lambda line, _: line.level,
+    ),
+    Column("unit", "", "", None, "the level's unit, dBFS or dBm", lambda line, survey: survey.unit, is_left=True),
+    Column(
+        "below",
+        "dB below",
+        "dB",
+        None,
+        "by how much the strongest cell of the window is stronger: the median over the windows",
+        lambda line, survey: line.below,
+    ),
+    Column(
+        "matches",
+        "signs",
+        "",
+        None,
+        "the maximum number of signs, of 124, that match the cell's secondary signals; 93 have to",
+        lambda line, survey: line.matches,
+    ),
+    Column("chance", None, "", None, "`no`: two windows detect the cell", lambda line, survey: "no"),
+    Column("datetime", None, "", None, "date and time of `first`", lambda line, survey: line.datetime),
+    Column(
+        None,
+        "strongest at",
+        "",
+        None,
+        "latitude and longitude of the cell's strongest window",
+        lambda line, survey: None,
+        lambda line, survey: place_text(line.strongest_place),
+    ),
+)
+OF_IDENTITY = {column.key: column for column in IDENTITY_COLUMNS if column.key}
+
+
+def place_text(place: tuple[float, float] | None) -> str:
+    """Returns latitude and longitude."""
+    return f"{place[1]:.6f}, {place[0]:.6f}" if place else "-"
+
+
+def value_of(key: str, line: SurveyCell | SurveyIdentity, survey: Survey) -> Value:
+    """Returns the value of a cell in the CSV's column of this key; None if it is not known of this kind of cell."""
+    if isinstance(line, SurveyCell):
+        return BY_KEY[key].of(line, survey) if key in BY_KEY else None
+    return OF_IDENTITY[key].of(line, survey) if key in OF_IDENTITY else None
 
 
 def table_columns(survey: Survey) -> list[Column[SurveyCell, Survey]]:

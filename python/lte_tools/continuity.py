@@ -126,7 +126,7 @@ class Pair(NamedTuple):
 
 def pairs_of(cells: Sequence[SeenCell]) -> list[Pair]:
     """Returns the pairs of a line and the latest one that ended before it began, each of them no false detection."""
-    drift, sure = drift_of(cells), [cell for cell in cells if not cell.is_chance(cells) and cell.repeats is None]
+    drift, sure = drift_of(cells) or 0.0, [cell for cell in cells if not cell.is_chance(cells) and cell.repeats is None]
     ends = [(cell.line, cell.seen[-1]) for cell in sure]
     pairs = []
     for line, first in [(cell.line, cell.seen[0]) for cell in sure]:
@@ -142,12 +142,12 @@ def pairs_of(cells: Sequence[SeenCell]) -> list[Pair]:
     return pairs
 
 
-def drift_of(cells: Sequence[SeenCell]) -> float:
-    """Returns by how many samples per second the frames of the cell that was seen most begin later."""
+def drift_of(cells: Sequence[SeenCell]) -> float | None:
+    """Returns by how many samples per second the frames of the cell that was seen most begin later, if that is known."""
     every = [cell.seen for cell in cells if cell.repeats is None]
     seen = max(every, key=len)[-DRIFTS:] if every else []
     if len(seen) < STEADY:
-        return 0.0
+        return None
     half = CYCLE / 2
     later = [(one.epoch - seen[0].epoch + half) % CYCLE - half for one in seen]
     return float(np.polyfit([one.seconds - seen[0].seconds for one in seen], later, 1)[0])

@@ -14,11 +14,9 @@ from . import survey_windows
 from .answers import Answer
 from .columns import Column
 from .ground import distance
-from .survey_data import Survey, SurveyCell
+from .survey_data import Survey, SurveyCell, SurveyIdentity
 from .survey_table import windows_text
-from .survey_windows import Window, are_next
-
-NEAR = 6  # dB below the strongest cell within which another one counts
+from .survey_windows import NEAR, Window, are_next
 
 
 class Limits(NamedTuple):
@@ -126,7 +124,7 @@ def servers(windows: Sequence[Window]) -> list[Kind]:
     return [server(number, cells[number]) for number in order]
 
 
-def server(number: int, cell: SurveyCell) -> Kind:
+def server(number: int, cell: SurveyCell | SurveyIdentity) -> Kind:
     """Returns the part in which the cell of a number is the strongest."""
 
     def has(window: Window) -> bool:
@@ -147,12 +145,12 @@ def with_others(count: int) -> Kind:
 
 
 def others_in(window: Window) -> int | None:
-    """Returns how many cells are within 6 dB of the strongest one on its carrier, None without a cell."""
-    best = window.strongest
-    if best is None:
+    """Returns how many cells are within 6 dB of the strongest one on its carrier, None without a cell; cells that are
+    detected and not listed count too."""
+    if not window.present:
         return None
-    near = (one for one in window.sure if one.cell.shift == best.cell.shift and one.level >= best.level - NEAR)
-    return sum(1 for _ in near) - 1
+    best, *others = window.present
+    return sum(one.cell.shift == best.cell.shift and one.level >= best.level - NEAR for one in others)
 
 
 def part_of(kind: Kind, windows: Sequence[Window], lengths: Sequence[float] | None) -> Part:

@@ -83,8 +83,8 @@ def of_cancelling(cells: Sequence[SeenCell], file: RadioFile) -> str | None:
     if not faults:
         return None
     return (
-        f"if PCI {one.line.identity} hides a weaker cell: {' and '.join(faults)}, since lte_cli search --cancel cancels "
-        f"cells of up to {LOUDEST} dBFS without a frequency offset"
+        f"if PCI {one.line.identity} hides a weaker cell: --deep detects its identity; for its MIB {' and '.join(faults)}, "
+        f"since lte_cli search --cancel cancels cells of up to {LOUDEST} dBFS without a frequency offset"
     )
 
 

@@ -8,7 +8,7 @@ import re
 from typing import Iterator, Sequence
 
 from . import places, survey_windows
-from .survey_data import Survey, SurveyCell
+from .survey_data import Detected, Seen, Survey, SurveyCell, SurveyIdentity
 from .survey_windows import InWindow, Window, are_next
 
 # as KML has colours: opacity, blue, green, red
@@ -32,6 +32,8 @@ def of_survey(survey: Survey) -> bytes:
     parts = [HEAD, f"<name>{text(survey.file)}</name>\n", *styles(), *way_of(windows, survey)]
     for number, cell in enumerate(survey.cells):
         parts += folder_of(number, cell, survey, windows)
+    for number, line in enumerate(survey.identities or (), len(survey.cells)):
+        parts += folder_of_identity(number, line, survey, windows)
     holes = [window for window in windows if window.place and not window.sure]
     if holes:
         parts += ["<Folder><name>No certain cell</name>\n", *map(hole, holes), "</Folder>\n"]
@@ -72,11 +74,33 @@ def folder_of(number: int, cell: SurveyCell, survey: Survey, windows: Sequence[W
     parts = [f"<Folder><name>{text(name)}</name>\n"]
     if cell.strongest_place:
         parts.append(placemark(f"{name}, strongest", style, cell.strongest_place, shared | places.over_time(cell)))
-    for window in windows:
-        for one in window.cells:
-            if one.number == number and window.place:
-                parts.append(placemark(level_text(one, survey.unit), style, window.place, places.at_window(one.seen)))
+    return [*parts, *windows_in(number, style, survey, windows), "</Folder>\n"]
+
+
+def folder_of_identity(number: int, line: SurveyIdentity, survey: Survey, windows: Sequence[Window]) -> list[str]:
+    """Returns the folder of a cell of which the identity alone is known."""
+    name, style = f"PCI {line.identity}, identity only", f"cell{number % len(COLOURS)}"
+    parts = [f"<Folder><name>{text(name)}</name>\n"]
+    if line.strongest_place:
+        values = places.properties_of_identity(line, survey) | places.of_identity(line)
+        parts.append(placemark(f"{name}, strongest", style, line.strongest_place, values))
+    parts += windows_in(number, style, survey, windows)
     return [*parts, "</Folder>\n"]
+
+
+def windows_in(number: int, style: str, survey: Survey, windows: Sequence[Window]) -> list[str]:
+    """Returns the windows with a place of a cell, by its number."""
+    return [
+        placemark(level_text(one, survey.unit), style, window.place, values_of(one.seen))
+        for window in windows
+        for one in window.cells
+        if one.number == number and window.place
+    ]
+
+
+def values_of(seen: Seen | Detected) -> dict[str, object]:
+    """Returns what is said of a cell in a window."""
+    return places.at_window(seen) if isinstance(seen, Seen) else places.at_detection(seen)
 
 
 def level_text(one: InWindow, unit: str) -> str:

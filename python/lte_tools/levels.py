@@ -11,17 +11,18 @@ from __future__ import annotations
 import bisect
 import dataclasses
 import math
-from typing import NamedTuple, Sequence
+from typing import NamedTuple, Sequence, TypeVar
 
 import numpy as np
 
 from . import radio, spectrum
 from .cells import SeenCell
 from .forms import FORMS
+from .identities import DeepSighting, SeenIdentity, detected_in
 from .options import Gain
 from .radio_file import RadioFile, Spoiled
 from .rates import SPACING
-from .sightings import WINDOW, Sighting, Task, samples_of, sightings_in
+from .sightings import WINDOW, Sighting, Task, samples_of, settled, sightings_of, window_of
 from .survey_data import Power, Step
 
 STEP = 2  # dB: the minimum of a gain step
@@ -31,6 +32,7 @@ AGREED = 3  # dB by which a cell's step may differ from that of the noise
 MIXED = 0.1  # of a window that is on either side of a step, at least
 PARTS = np.linspace(MIXED, 1 - MIXED, 17)  # of a window at which its gain is looked at
 MOST_ROUNDING = 0.75  # of a noise floor that rounding errors may be, at most
+S = TypeVar("S", Sighting, DeepSighting)
 CLOSE = 3  # seconds on either side of a step in which a cell is compared
 
 
@@ -44,13 +46,24 @@ def power_of(task: Task, samples: radio.Complex) -> Power:
     return Power(round(task.start, 6), rounded(total), rounded(floor))
 
 
-def looked_at(task: Task) -> tuple[list[Sighting] | None, Power | None]:
-    """Returns the cells of a window and its power, None where its samples are not numbers."""
+class InWindow(NamedTuple):
+    """The cells that are listed in a window, and its power, None where its samples are not numbers; and the cells that are
+    detected in it, if that was asked."""
+
+    listed: list[Sighting] | None
+    power: Power | None
+    detected: tuple[DeepSighting, ...] = ()
+
+
+def looked_at(task: Task, is_deep: bool = False) -> InWindow:
+    """Returns what is in a window, with the cells that `ids --deep` detects if that is asked."""
     try:
         samples = samples_of(task)
     except Spoiled:
-        return None, None
-    return sightings_in(task, samples), power_of(task, samples)
+        return InWindow(None, None)
+    window, lines = settled(window_of(task, samples))
+    detected = detected_in(task, window) if is_deep else ()
+    return InWindow(sightings_of(task, samples, window, lines), power_of(task, samples), detected)
 
 
 def rounded(power: float) -> float | None:
@@ -174,7 +187,11 @@ class Gains(NamedTuple):
 
 
 def even(
-    cells: Sequence[SeenCell], powers: Sequence[Power], gain: Gain, rounding: float = 0.0
+    cells: Sequence[SeenCell],
+    powers: Sequence[Power],
+    gain: Gain,
+    rounding: float = 0.0,
+    identities: Sequence[SeenIdentity] = (),
 ) -> tuple[list[Power], list[Step]]:
     """Sets the gain of all sightings, by the steps of a constant gain or as options name it over time; those of a window
     within which it steps have no level. Returns the powers of the windows at the first gain, and the steps; `rounding` is
@@ -184,10 +201,13 @@ def even(
     gains = gains.with_steps(steps) if steps else gains
     for cell in cells:
         cell.seen = [at_gains(one, gains) for one in cell.seen]
+        cell.detected = [at_gains(one, gains) for one in cell.detected]
+    for line in identities:
+        line.seen = [at_gains(one, gains) for one in line.seen]
     return [at_gain(one, gains) for one in powers], steps
 
 
-def at_gains(one: Sighting, gains: Gains) -> Sighting:
+def at_gains(one: S, gains: Gains) -> S:
     """Returns a sighting with its gain, and without a level where the gain steps within its window."""
     gain, is_one = gains.within(one.task.start)
     return dataclasses.replace(one, gain=gain, level=one.level if is_one else None)

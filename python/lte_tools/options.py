@@ -31,6 +31,7 @@ OF_SAMPLES = (
     "offset",
     "gain",
     "scan",
+    "deep",
     "track",
     "gpsd",
     "start",
@@ -75,6 +76,7 @@ class SurveyOptions(FileOptions):
     gain: Gain = None
     jobs: int = 1
     scan: bool = False
+    deep: bool = False
     earfcn: int | None = None
     follow: bool = False
     wait: bool = False
@@ -167,6 +169,11 @@ def survey_parser(text: str | None) -> argparse.ArgumentParser:
     )
     add("--jobs", type=at_least_one, default=os.cpu_count() or 1, help="processes (one a processor)")
     add("--scan", action="store_true", help="look at each carrier of the 100 kHz raster in the file")
+    add(
+        "--deep",
+        action="store_true",
+        help="also cells far below the strongest one, of which the identity alone is read",
+    )
     add("--earfcn", type=int, metavar="N", help="the cell's carrier by its number, for --carrier")
     add(
         "--follow",
@@ -251,9 +258,12 @@ def check_input(options: SurveyOptions) -> None:
     """Refuses options that are only for standard input, or only for a file."""
     if options.further and pathlib.Path("-") in options.files:
         raise Refused("-: standard input is not one of several files")
+    if options.deep and options.scan:
+        raise Refused("--deep and --scan: one of them")
     if options.is_input:
-        if options.scan:
-            raise Refused("-: --scan needs a file")
+        for name in ("scan", "deep"):
+            if getattr(options, name):
+                raise Refused(f"-: --{name} needs a file")
         if options.wait and options.has_places and options.start is None:
             raise Refused("-: with --wait the samples come later than they were received: --start says when that was")
     elif options.follow or options.wait:

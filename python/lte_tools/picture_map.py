@@ -18,7 +18,7 @@ from . import picture_labels, picture_scan, picture_survey, survey_windows
 from .ground import DEGREE, Ground
 from .picture_labels import Point, Sign
 from .picture_style import MARKS, WIDTH, fitted, headed, number_text
-from .survey_data import Survey, SurveyCell
+from .survey_data import Survey, SurveyCell, SurveyIdentity
 
 Windows = Sequence[tuple[float, float, float]]
 
@@ -150,7 +150,9 @@ class Map(Frame):
         return Point(points * mark.east, points * mark.north, math.sqrt(self.area(mark.level)) / 2, mark.cell)
 
     def name(self, number: int) -> str:
-        cell = self.found.cells[number]
+        cell = self.found.lines[number]
+        if isinstance(cell, SurveyIdentity):
+            return f"{picture_survey.name_of(cell)}, identity only"
         where = f", {cell.frequency / 1e6:.1f} MHz" if cell.frequency and self.found.scan else ""
         return f"{picture_survey.name_of(cell)}{picture_survey.number_of(cell)}{where}"
 
@@ -291,15 +293,15 @@ def draw_sizes(ax: Any, drawn: Map) -> None:
     ax.text(0, -0.66 / drawn.height, f"{text}.", transform=ax.transAxes, fontsize=7.5, color="#555555", va="top")
 
 
-def in_order(found: Survey, signs: dict[int, Sign]) -> list[SurveyCell]:
+def in_order(found: Survey, signs: dict[int, Sign]) -> list[SurveyCell | SurveyIdentity]:
     """Returns the cells with letters by these, then the others."""
-    others = [i for i in range(len(found.cells)) if i not in signs]
-    return [found.cells[i] for i in (*signs, *others)]
+    others = [i for i in range(len(found.lines)) if i not in signs]
+    return [found.lines[i] for i in (*signs, *others)]
 
 
 def map_sheet(found: Survey, title: str | None = None) -> Any:
     """Returns the map, with the table of a few cells beside it, or that of many below."""
-    return (sheet_beside if len(found.cells) <= FEW else sheet_below)(found, title)
+    return (sheet_beside if len(found.lines) <= FEW else sheet_below)(found, title)
 
 
 def sheet_beside(found: Survey, title: str | None) -> Any:
@@ -312,7 +314,7 @@ def sheet_beside(found: Survey, title: str | None) -> Any:
     headed(figure, title or found.file, picture_survey.facts_line(found, title)).set(y=1 - 0.12 / tall, va="top")
     draw_map(axes_at(figure, MAP[0], HEAD, MAP[1], drawn.height), drawn)
     draw_sizes(figure.axes[0], drawn)
-    signs = {id(found.cells[number]): sign for number, sign in drawn.signs.items()}
+    signs = {id(found.lines[number]): sign for number, sign in drawn.signs.items()}
     ax = axes_at(figure, TABLE[0], HEAD + 0.3, TABLE[1], table)
     picture_survey.draw_table(ax, found, cells, signs)
     if not cells:
@@ -348,12 +350,12 @@ LINES = (
 LEVELS = ((0.81, "right", "{}"), (0.94, "right", "S/N dB"))
 
 
-def draw_lines(ax: Any, found: Survey, columns: Sequence[Sequence[SurveyCell]], drawn: Map) -> None:
+def draw_lines(ax: Any, found: Survey, columns: Sequence[Sequence[SurveyCell | SurveyIdentity]], drawn: Map) -> None:
     """Draws a line for each cell, in columns: letter and mark, identity, network, windows, level and signal to noise."""
     ax.axis("off")
     rows = max(map(len, columns))
     ax.set(xlim=(0, COLUMNS), ylim=(rows + 0.5, -0.5))
-    signs = {id(found.cells[number]): sign for number, sign in drawn.signs.items()}
+    signs = {id(found.lines[number]): sign for number, sign in drawn.signs.items()}
     for left, cells in enumerate(columns):
         for place, side, head in (*LINES, *LEVELS):
             ax.text(left + place, 0, head.format(found.unit), fontsize=7, color="#555555", ha=side, va="center")
@@ -368,8 +370,10 @@ def draw_lines(ax: Any, found: Survey, columns: Sequence[Sequence[SurveyCell]], 
                 ax.text(left + place, row, text, fontsize=7, ha=side, va="center", fontweight=weight)
 
 
-def network_of(cell: SurveyCell) -> str:
+def network_of(cell: SurveyCell | SurveyIdentity) -> str:
     """Returns network, area, eNodeB and cell in one line, or why they are not known."""
+    if isinstance(cell, SurveyIdentity):
+        return "identity only"
     sib1 = cell.sib1
     if sib1 is None:
         return f"no SIB1: {cell.no_sib1}"[:34]
@@ -383,7 +387,7 @@ def time_sheet(found: Survey, title: str | None = None) -> Any:
         return picture_scan.scan_sheet(found, title)
     signs = Map(found, ALONE).signs if found.is_placed else {}
     some = itertools.islice(signs.items(), len(MARKS))
-    return picture_survey.survey_sheet(found, title, {id(found.cells[number]): sign for number, sign in some})
+    return picture_survey.survey_sheet(found, title, {id(found.lines[number]): sign for number, sign in some})
 
 
 def map_alone(found: Survey) -> Any:

@@ -14,7 +14,7 @@ from matplotlib import pyplot
 from . import columns, survey_table
 from .picture_style import COLOURS, MARKS, WIDTH, facts_of, headed, number_text
 from .radio import Real
-from .survey_data import Survey, SurveyCell
+from .survey_data import Survey, SurveyCell, SurveyIdentity
 
 Signs = Mapping[int, tuple[str, str, str]]  # letter, mark and colour of a cell, by its identity as an object
 
@@ -69,7 +69,7 @@ def strong_first(cells: Sequence[SurveyCell]) -> list[SurveyCell]:
     return sorted(sure, key=lambda cell: -(cell.level or 0))[: len(MARKS)]
 
 
-def name_of(cell: SurveyCell) -> str:
+def name_of(cell: SurveyCell | SurveyIdentity) -> str:
     return f"PCI {cell.identity}" + "?" * (cell.chance or bool(cell.doubts))
 
 
@@ -159,7 +159,7 @@ COLUMNS = (
 )
 
 
-def draw_table(ax: Any, found: Survey, cells: Sequence[SurveyCell], strongest: Signs) -> None:
+def draw_table(ax: Any, found: Survey, cells: Sequence[SurveyCell | SurveyIdentity], strongest: Signs) -> None:
     """Draws what is known of each cell, beside its row: with its letter, mark and colour where it has them."""
     ax.axis("off")
     ax.set(xlim=(0, 1), ylim=(max(1, len(cells)), 0))
@@ -192,8 +192,10 @@ def draw_notes(ax: Any, found: Survey, place: tuple[float, float], side: str) ->
     ax.text(*place, text, va=side, fontsize=6.5, clip_on=False, transform=ax.transAxes).set_in_layout(False)
 
 
-def identity_lines(cell: SurveyCell) -> list[str]:
+def identity_lines(cell: SurveyCell | SurveyIdentity) -> list[str]:
     """Returns network, area and cell of SIB1, or why there is none; of a scan the carrier; and the echo."""
+    if isinstance(cell, SurveyIdentity):
+        return ["no MIB", f"{number_text(cell.below)} dB below the strongest cell"]
     sib1, echo = cell.sib1, max(cell.echoes, key=lambda one: one.level or 0) if cell.echoes else None
     if sib1 is None:
         lines = [f"no SIB1: {cell.no_sib1}"]

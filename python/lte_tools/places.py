@@ -2,7 +2,8 @@
 
 GeoJSON is that of RFC 7946: a FeatureCollection of points in WGS84, longitude first. A feature of `kind` "window" is a
 cell in a window, one of `kind` "cell" a cell where it was strongest, without a geometry where none of its windows has a
-place, and one of `kind` "hole" a window without a certain cell.
+place, and one of `kind` "hole" a window without a certain cell. One of `kind` "identity" is a cell of which the identity
+alone is known, where it was strongest, and one of `kind` "detected" a cell in a window that does not list it.
 """
 from __future__ import annotations
 
@@ -10,13 +11,13 @@ import dataclasses
 import datetime
 import json
 import pathlib
-from typing import TYPE_CHECKING, Any, Sequence
+from typing import TYPE_CHECKING, Any, Sequence, TypeVar
 
 from . import gpsd, survey_windows, track
 from .drives import Stretch
 from .machine import Refused, note
 from .options import SurveyOptions
-from .survey_data import Seen, Survey, SurveyCell, Track, timestamp
+from .survey_data import Detected, Seen, Survey, SurveyCell, SurveyIdentity, Track, timestamp
 from .survey_windows import Window
 from .track import Track as Places
 
@@ -24,6 +25,7 @@ if TYPE_CHECKING:
     from .radio_file import RadioFile
 
 DIGITS = 7  # of a degree: a centimetre
+S = TypeVar("S", Seen, Detected)
 
 
 # ---- times
@@ -97,18 +99,26 @@ def with_places(survey: Survey, file: RadioFile, places: Places, starts: Sequenc
     """Returns a survey whose windows have their places, longitude first, or None; notes how many have none. `starts` are
     the seconds at which all windows begin, whose places the survey's track has."""
     cells = tuple(placed(cell, file, places) for cell in survey.cells)
+    identities = survey.identities and tuple(
+        dataclasses.replace(one, detected=every_placed(one.detected, file, places)) for one in survey.identities
+    )
     windows = [(round(start, 6), place_at(file, places, start)) for start in starts]
     every = [one for cell in cells for one in cell.seen]
     if without := sum(one.place is None for one in every):
         note(f"{without} of {len(every)} windows of cells have no place: the track has none within {track.NEAR} s")
     found = tuple((start, *place) for start, place in windows if place)
     where = Track(track.iso(places.first), track.iso(places.last), len(places.places), found)
-    return dataclasses.replace(survey, cells=cells, track=where)
+    return dataclasses.replace(survey, cells=cells, identities=identities, track=where)
 
 
 def placed(cell: SurveyCell, file: RadioFile, places: Places) -> SurveyCell:
-    seen = (dataclasses.replace(one, place=place_at(file, places, one.seconds)) for one in cell.seen)
-    return dataclasses.replace(cell, seen=tuple(seen))
+    seen, detected = every_placed(cell.seen, file, places), every_placed(cell.detected, file, places)
+    return dataclasses.replace(cell, seen=seen, detected=detected)
+
+
+def every_placed(seen: Sequence[S], file: RadioFile, places: Places) -> tuple[S, ...]:
+    """Returns what was measured in windows with the places of these."""
+    return tuple(dataclasses.replace(one, place=place_at(file, places, one.seconds)) for one in seen)
 
 
 def place_at(file: RadioFile, places: Places, second: float) -> tuple[float, float] | None:
@@ -131,9 +141,19 @@ def geojson_of(survey: Survey) -> dict[str, Any]:
             for one in cell.seen
             if one.place
         ]
+        features += detections_of(cell.detected, shared)
+    for line in survey.identities or ():
+        shared = properties_of_identity(line, survey)
+        features.append(feature(line.strongest_place, {"kind": "identity", **shared, **of_identity(line)}))
+        features += detections_of(line.detected, shared)
     holes = (window for window in windows if window.place and not window.sure)
     features += [feature(window.place, {"kind": "hole", **hole_at(window)}) for window in holes]
     return {"type": "FeatureCollection", "features": features}
+
+
+def detections_of(detected: Sequence[Detected], shared: dict[str, Any]) -> list[dict[str, Any]]:
+    """Returns the windows with a place that detect a cell without listing it, as features."""
+    return [feature(one.place, {"kind": "detected", **shared, **at_detection(one)}) for one in detected if one.place]
 
 
 def feature(place: tuple[float, float] | None, properties: dict[str, Any]) -> dict[str, Any]:
@@ -158,6 +178,21 @@ def properties_of(cell: SurveyCell, survey: Survey) -> dict[str, Any]:
         "chance": cell.chance,
         "unit": survey.unit,
     }
+
+
+def properties_of_identity(line: SurveyIdentity, survey: Survey) -> dict[str, Any]:
+    """Returns what is said of a cell of which the identity alone is known, wherever it was detected."""
+    return {"identity": line.identity, "carrier": survey.carrier, "unit": survey.unit}
+
+
+def of_identity(line: SurveyIdentity) -> dict[str, Any]:
+    keys = ("level", "below", "matches", "windows", "first", "last", "datetime")
+    return {key: getattr(line, key) for key in keys}
+
+
+def at_detection(one: Detected) -> dict[str, Any]:
+    """Returns what is said of a cell in a window that detects it without listing it."""
+    return {**{key: getattr(one, key) for key in ("level", "below", "matches", "seconds")}, "time": iso(one.time)}
 
 
 def over_time(cell: SurveyCell) -> dict[str, Any]:

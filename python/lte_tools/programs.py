@@ -27,7 +27,7 @@ from dataclasses import dataclass
 from typing import TYPE_CHECKING, Any, Generic, Iterator, Mapping, TypeVar, Union
 
 from . import foreign, machine, options, rates, records
-from .answers import Answer, Cell, CellEvidence, Evidence, Hit, Identity, Tuning
+from .answers import Answer, Cell, CellEvidence, Deep, Evidence, Hit, Identity, Tuning
 from .machine import ProgramRefused, Refused
 from .reasons import Why
 from .rules import RULES, Rule
@@ -210,6 +210,30 @@ def ids(
     """Returns the PSS detections with their cell identities (`lte_cli ids`); parameters as in `hits`."""
     recording = recording_of(samples, Reading(rate, format, shift, at, wide_rate))
     return listed(Identity, ("ids", "--json"), recording, "ids")
+
+
+def deep(
+    samples: Samples,
+    *,
+    rate: float = RATE,
+    format: str | None = None,
+    all: bool = False,
+    shift: float = 0,
+    at: float = 0,
+    wide_rate: float | None = None,
+) -> Deep:
+    """Returns the cells that are detected over many half-frames, also far below the strongest one (`lte_cli ids --deep`).
+
+    They are detected in the recording's first 326,400 samples, with `all` in all of it; the other parameters are as in
+    `hits`.
+    """
+    return deep_of(recording_of(samples, Reading(rate, format, shift, at, wide_rate)), all)
+
+
+def deep_of(recording: Recording, is_all: bool = False) -> Deep:
+    """Returns the cells that are detected over many half-frames of a recording."""
+    arguments = ("ids", "--deep", *(("all",) if is_all else ()), "--json", *recording.arguments)
+    return records.from_json(Deep, answer("lte_cli", arguments, recording.data, "ids_deep"))
 
 
 def search(

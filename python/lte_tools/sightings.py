@@ -44,6 +44,10 @@ class Task:
         """The sample of the file at which it begins."""
         return round(self.start * self.file.rate)
 
+    def second_of(self, sample: int) -> float:
+        """Returns the second of the file at a sample of the window's recording."""
+        return self.first / self.file.rate + sample / radio.RATE
+
     def with_offset(self, offset: float) -> Task:
         return dataclasses.replace(self, offset=offset)
 
@@ -279,7 +283,7 @@ class Sighting:
     @property
     def seconds(self) -> float:
         """When its first whole frame begins."""
-        return round(self.task.start * self.task.file.rate) / self.task.file.rate + self.line.at / radio.RATE
+        return self.task.second_of(self.line.at)
 
     @property
     def epoch(self) -> float:
@@ -341,7 +345,11 @@ def sightings(task: Task) -> list[Sighting] | None:
 
 def sightings_in(task: Task, samples: radio.Complex) -> list[Sighting]:
     """Returns the cells of a window with these samples, each with the rules that list it."""
-    window, detections = settled(window_of(task, samples))
+    return sightings_of(task, samples, *settled(window_of(task, samples)))
+
+
+def sightings_of(task: Task, samples: radio.Complex, window: Window, detections: list[Detection]) -> list[Sighting]:
+    """Returns the cells of a window with these samples, each with the rules that list it, by its detections."""
     found: list[Sighting] = []
     for one in with_evidence(window, detections):
         add_line(found, sighting_of(task, *by_itself(window, one)))

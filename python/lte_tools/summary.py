@@ -4,7 +4,8 @@ Debian: python3-numpy.
 """
 from __future__ import annotations
 
-from typing import NamedTuple, Sequence
+import dataclasses
+from typing import Mapping, NamedTuple, Sequence
 
 import numpy as np
 
@@ -12,10 +13,11 @@ from . import radio
 from .cells import SeenCell, less, less_or_none
 from .continuity import Jump
 from .doubts import doubts_of
+from .identities import DeepSighting, SeenIdentity
 from .options import SurveyOptions
 from .radio_file import RadioFile
 from .sightings import WINDOW, Sighting
-from .survey_data import Part, Power, Seen, Step, Survey, SurveyCell
+from .survey_data import Detected, Part, Power, Seen, Step, Survey, SurveyCell, SurveyIdentity
 
 SURE, BESIDE, LINE = 15, 0.5, 4  # hertz of an error; seconds about a sighting, and sightings that give a straight line
 DOPPLER = 60  # hertz by which the offset of one cell mostly differs from another's
@@ -53,7 +55,7 @@ def smoothed(seen: Sequence[Sighting], surest: dict[float, Sighting]) -> list[fl
 
 class Looked(NamedTuple):
     """What is known of a file's windows: their number, those without numbers, the offsets that were found, missing samples,
-    powers and steps of the gain."""
+    powers and steps of the gain, and the cells that no list has, None if they were not asked for."""
 
     windows: int
     spoiled: Sequence[float] = ()
@@ -61,13 +63,14 @@ class Looked(NamedTuple):
     jumps: Sequence[Jump] = ()
     powers: Sequence[Power] = ()
     steps: Sequence[Step] = ()
+    identities: Sequence[SeenIdentity] | None = None
 
 
 def survey_of_cells(
     options: SurveyOptions, file: RadioFile, cells: Sequence[SeenCell], looked: Looked, hint: str | None = None
 ) -> Survey:
     """Returns the survey of a file's cells."""
-    surest = surest_of(cells)
+    surest, tops = surest_of(cells), tops_of(cells, looked.identities or ())
     return Survey(
         file=str(options.file),
         datetime=file.time_at(file.stretches[0].first / file.rate) if file.stretches else None,
@@ -85,11 +88,17 @@ def survey_of_cells(
         spoiled=tuple(looked.spoiled),
         hint=hint,
         offsets=tuple(looked.offsets),
-        cells=tuple(surveyed(cell, cells, file, surest) for cell in cells),
+        cells=tuple(
+            dataclasses.replace(surveyed(cell, cells, file, surest), detected=every_detected(cell.detected, file, tops))
+            for cell in cells
+        ),
         gaps=tuple(jump.gap(file.rate) for jump in looked.jumps),
         powers=tuple(looked.powers),
         steps=tuple(looked.steps),
         parts=parts_of(file),
+        identities=None
+        if looked.identities is None
+        else tuple(identity_of(one, file, tops) for one in looked.identities),
     )
 
 
@@ -154,4 +163,59 @@ def seen_of(one: Sighting, file: RadioFile, offset: float) -> Seen:
         total=one.total,
         mib=one.mib,
         sib1_block=one.sib1_block,
+    )
+
+
+# ---- cells that no list has
+
+
+def tops_of(cells: Sequence[SeenCell], identities: Sequence[SeenIdentity]) -> dict[float, float]:
+    """Returns by the start of each window the level of its strongest cell, listed or not, that is no false detection."""
+    sure = [cell for cell in cells if not cell.is_chance(cells)]
+    listed = [one for cell in sure for one in cell.seen]
+    detected = [
+        one for line in (*(cell.detected for cell in sure), *(line.seen for line in identities)) for one in line
+    ]
+    found: dict[float, float] = {}
+    for start, level in [*map(start_and_level, listed), *map(start_and_level, detected)]:
+        if level is not None:
+            found[start] = max(found.get(start, level), level)
+    return found
+
+
+def start_and_level(one: Sighting | DeepSighting) -> tuple[float, float | None]:
+    """Returns the start of a cell's window, and the cell's level without the radio's gain."""
+    return one.task.start, one.evened
+
+
+def identity_of(line: SeenIdentity, file: RadioFile, tops: Mapping[float, float]) -> SurveyIdentity:
+    """Returns a cell that no list has, as the survey has it; `tops` are the levels of the windows' strongest cells."""
+    detected = every_detected(line.seen, file, tops)
+    below = [one.below for one in detected if one.below is not None]
+    return SurveyIdentity(
+        identity=line.seen[0].cell.identity,
+        first=detected[0].seconds,
+        last=detected[-1].seconds,
+        datetime=detected[0].datetime,
+        windows=line.windows,
+        level=less_or_none(line.strongest.evened),
+        below=less(float(np.median(below))) if below else None,
+        matches=max(one.matches for one in detected),
+        detected=detected,
+    )
+
+
+def every_detected(seen: Sequence[DeepSighting], file: RadioFile, tops: Mapping[float, float]) -> tuple[Detected, ...]:
+    """Returns detections of a cell as the survey has them."""
+    return tuple(
+        Detected(
+            seconds=round(one.seconds, 4),
+            at=round(one.seconds * file.rate),
+            datetime=file.time_at(one.seconds),
+            level=less_or_none(one.evened),
+            below=None if one.evened is None else less(tops[one.task.start] - one.evened),
+            matches=one.cell.matches,
+            gain=less(one.gain),
+        )
+        for one in seen
     )

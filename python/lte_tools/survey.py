@@ -4,6 +4,7 @@ survey.py PART.. [--rate R] [--json]
 survey.py FILE --track TRACK [--start TIME] [--html OUT] [--geojson OUT]
 survey.py FILE --pcap OUT.pcap
 survey.py FILE --scan [--carrier CENTRE]
+survey.py FILE --deep
 survey.py SURVEY.json [--plan CSV] [--clashes DB] [--coverage LEVEL,RATIO] [--csv-windows OUT] [--kml OUT]
 rtl_sdr -f 796e6 -s 1.92e6 - | survey.py - --form u8 --rate 1.92e6 --follow
 
@@ -26,9 +27,10 @@ Several files are one drive, in the order of their times, which SigMF, the heade
 is missing between them is stated below the table. With --track each window gets the place of its time: the file's time
 is SigMF's, or that of --start, of the header or of the name. --gpsd reads places from gpsd, for - from a named pipe.
 --html writes a page with the table, which sorts, the cells over time, and a map where there are places. --pcap writes
-the blocks of MIB and SIB1 for Wireshark (pcap.py). --scan looks at each carrier of the 100 kHz raster in the file.
-Standard input (-) is looked at as it comes, until it ends or a signal comes; a radio may begin again. With --follow a
-named pipe waits for its next writer.
+the blocks of MIB and SIB1 for Wireshark (pcap.py). --deep adds cells far below the strongest one, which `lte_cli ids
+--deep` detects over many half-frames, and of which the identity alone is known (identities.py). --scan looks at each
+carrier of the 100 kHz raster in the file. Standard input (-) is looked at as it comes, until it ends or a signal comes;
+a radio may begin again. With --follow a named pipe waits for its next writer.
 
 Further tables: --plan compares with a list of planned cells, --clashes lists for each cell the others that are nearly as
 strong in the same windows, --coverage sums up how much of the way the strongest cell covers; --html has these tables too.

@@ -4,11 +4,14 @@ from __future__ import annotations
 import datetime
 import pathlib
 from dataclasses import dataclass, fields
-from typing import Any, Optional
+from typing import Any, Optional, Sequence
 
 from . import foreign, records
 from .answers import Answer, Sib1, sib1_json, sib1_of
 from .machine import Refused
+
+
+IDENTITY_ONLY = "identity-only"  # in place of the list that has a cell
 
 
 @dataclass(frozen=True)
@@ -50,6 +53,105 @@ class Seen(Answer):
 
 
 @dataclass(frozen=True)
+class Detected(Answer):
+    """A cell in a window whose lists do not have it, detected over many half-frames (`lte_cli ids --deep`): the first frame
+    (second and sample of the file, time), level in the survey's unit, `below`, by how many dB the strongest cell of the
+    window is above it, the signs of 124 that match, and `gain` and `place` as those of `Seen`. Nothing else is known.
+    """
+
+    seconds: float
+    at: int
+    datetime: str | None
+    level: float | None
+    below: float | None
+    matches: int
+    gain: float = 0.0
+    place: tuple[float, float] | None = None
+
+    @property
+    def time(self) -> float | None:
+        """Seconds since 1970 at which its first frame began, or None."""
+        return None if self.datetime is None else timestamp(self.datetime)
+
+    @property
+    def ratio(self) -> None:
+        """Its signal to noise ratio, which is not known."""
+        return None
+
+    def to_json(self, is_placed: bool = True) -> dict[str, Any]:
+        """Returns it as the survey's JSON has it; without a track it has no place."""
+        return {key: value for key, value in records.to_json(self).items() if is_placed or key != "place"}
+
+
+@dataclass(frozen=True)
+class SurveyIdentity(Answer):
+    """A cell of which the identity alone is known: no list has it, and at least two windows detect it at one place of a
+    frame. `first` and `last` are seconds of the file, `level` is the maximum in the survey's unit, `below` the median in
+    dB, `matches` the maximum."""
+
+    identity: int
+    first: float
+    last: float
+    datetime: str | None
+    windows: int
+    level: float | None
+    below: float | None
+    matches: int
+    detected: tuple[Detected, ...]
+
+    @property
+    def chance(self) -> bool:
+        """Whether it is probably a false detection: two windows never are."""
+        return False
+
+    @property
+    def doubts(self) -> tuple[str, ...]:
+        """The words of its doubts: none."""
+        return ()
+
+    @property
+    def sib1(self) -> None:
+        """SIB1, which was not read."""
+        return None
+
+    @property
+    def rule(self) -> str:
+        """What stands in place of the list that has a cell."""
+        return IDENTITY_ONLY
+
+    @property
+    def ratio(self) -> None:
+        """Its signal to noise ratio, which is not known."""
+        return None
+
+    @property
+    def shift(self) -> None:
+        """Its frequency in a scan, which detects none."""
+        return None
+
+    @property
+    def frequency(self) -> None:
+        """Its carrier's frequency in a scan, which detects none."""
+        return None
+
+    @property
+    def strongest_place(self) -> tuple[float, float] | None:
+        """Where it was strongest, of the windows that have a place and a level, else of those with a place."""
+        return place_of_strongest(self.detected)
+
+    def to_json(self, is_placed: bool = True) -> dict[str, Any]:
+        """Returns it as the survey's JSON has it; with a track its windows have places."""
+        return {**records.to_json(self), "detected": [one.to_json(is_placed) for one in self.detected]}
+
+
+def place_of_strongest(seen: Sequence[Seen | Detected]) -> tuple[float, float] | None:
+    """Returns where a cell was strongest, of the windows that have a place and a level, else of those with a place."""
+    placed = [one for one in seen if one.place]
+    loudest = max(placed, key=lambda one: -1e9 if one.level is None else one.level, default=None)
+    return loudest.place if loudest else None
+
+
+@dataclass(frozen=True)
 class SurveyCell(Answer):
     """A cell of a survey: the fields of its list's line, when it was seen, and its numbers.
 
@@ -58,7 +160,8 @@ class SurveyCell(Answer):
     the minimum cost by total. `chance` states whether it is probably a false detection, `doubts` has words of DOUBTS
     (columns.py). `repeats` is the number of seconds after which its frame number begins again: 0 if it is the same in every
     window, None if it runs on. For a scan `shift` is in hertz above the file's centre, `frequency` in hertz, and `earfcns`
-    has pairs of band and EARFCN.
+    has pairs of band and EARFCN. `detected` are the windows of a survey with `deep` whose lists do not have it, and in which
+    it is detected all the same.
     """
 
     identity: int
@@ -90,6 +193,7 @@ class SurveyCell(Answer):
     ratios: tuple[float, float] | None = None
     repeats: float | None = None
     doubts: tuple[str, ...] = ()
+    detected: tuple[Detected, ...] = ()
 
     @classmethod
     def from_json(cls, value: dict[str, Any]) -> SurveyCell:
@@ -100,15 +204,20 @@ class SurveyCell(Answer):
             "earfcns": tuple[tuple[int, int], ...],
             "ratios": Optional[tuple[float, float]],
             "doubts": tuple[str, ...],
+            "detected": tuple[Detected, ...],
         }
         found: dict[str, Any] = {one.name: value[one.name] for one in fields(cls) if one.name in value}
         found |= {key: records.typed(kind, found[key]) for key, kind in kinds.items() if key in found}
         found["sib1"], found["no_sib1"] = sib1, reason
         return cls(**found)
 
-    def to_json(self, is_placed: bool = False) -> dict[str, Any]:
-        """Returns the cell as the survey's JSON has it; with a track its windows have places."""
+    def to_json(self, is_placed: bool = False, is_deep: bool = False) -> dict[str, Any]:
+        """Returns the cell as the survey's JSON has it: with a track its windows have places, and if `deep` was asked it
+        has `detected`."""
         found = {key: value for key, value in records.to_json(self).items() if key not in ("no_sib1", "sib1")}
+        del found["detected"]
+        if is_deep:
+            found["detected"] = [one.to_json(is_placed) for one in self.detected]
         if self.shift is None:
             for key in ("shift", "frequency", "earfcns"):
                 del found[key]
@@ -130,9 +239,7 @@ class SurveyCell(Answer):
     @property
     def strongest_place(self) -> tuple[float, float] | None:
         """Where it was strongest, of the windows that have a place and a level, else of those with a place."""
-        placed = [one for one in self.seen if one.place]
-        loudest = max(placed, key=lambda one: -1e9 if one.level is None else one.level, default=None)
-        return loudest.place if loudest else None
+        return place_of_strongest(self.seen)
 
 
 @dataclass(frozen=True)
@@ -224,7 +331,8 @@ class Survey(Answer):
 
     `shift` is where the cells stand in hertz above the file's centre, `carrier` their frequency in hertz, `rate_error` in
     millionths, `unit` that of levels, `spoiled` the seconds of windows without numbers, `hint` what may be wrong. Levels
-    are those at the gain of the first window, where the radio's gain has `steps`.
+    are those at the gain of the first window, where the radio's gain has `steps`. `identities` are the cells of which the
+    identity alone is known, None if they were not asked for (`deep`).
     """
 
     file: str
@@ -251,6 +359,7 @@ class Survey(Answer):
     powers: tuple[Power, ...] = ()
     steps: tuple[Step, ...] = ()
     parts: tuple[Part, ...] = ()
+    identities: Optional[tuple[SurveyIdentity, ...]] = None
 
     @classmethod
     def read(cls, path: pathlib.Path) -> Survey:
@@ -262,8 +371,8 @@ class Survey(Answer):
         """Returns the survey of a JSON value; `name` is that of its file in a refusal."""
         foreign.check(value, "survey", name)
         found = records.from_json(cls, value)
-        times = [found.datetime, *(one.datetime for one in found.parts), *(cell.datetime for cell in found.cells)]
-        for text in [*times, *(one.datetime for cell in found.cells for one in cell.seen)]:
+        times = [found.datetime, *(one.datetime for one in found.parts), *(line.datetime for line in found.lines)]
+        for text in [*times, *(one.datetime for line in found.lines for one in every_seen(line))]:
             try:
                 if text is not None:
                     timestamp(text)
@@ -274,13 +383,16 @@ class Survey(Answer):
     def to_json(self, has_windows: bool = True) -> dict[str, Any]:
         """Returns the survey's JSON, or that without single windows."""
         found: dict[str, Any] = {one.name: records.plain(getattr(self, one.name)) for one in fields(self)}
-        found["cells"] = [cell.to_json(self.track is not None) for cell in self.cells]
-        for key in ("track", "scan", "live", "parts"):
-            if found[key] in (None, []):
+        is_placed, is_deep = self.track is not None, self.identities is not None
+        found["cells"] = [cell.to_json(is_placed, is_deep) for cell in self.cells]
+        found["identities"] = [one.to_json(is_placed) for one in self.identities or ()] if is_deep else None
+        for key in ("track", "scan", "live", "parts", "identities"):
+            if found[key] is None or found[key] == [] and key == "parts":
                 del found[key]
         if not has_windows:
-            for cell in found["cells"]:
-                del cell["seen"]
+            for line in [*found["cells"], *found.get("identities", [])]:
+                line.pop("seen", None)
+                line.pop("detected", None)
             del found["powers"]
             found.get("track", {}).pop("windows", None)
         return found
@@ -288,6 +400,11 @@ class Survey(Answer):
     def to_rows(self) -> list[dict[str, Any]]:
         """Returns a row for each cell, for pandas.DataFrame."""
         return [cell.to_row() for cell in self.cells]
+
+    @property
+    def lines(self) -> tuple[SurveyCell | SurveyIdentity, ...]:
+        """The cells that a list has, then those of which the identity alone is known."""
+        return (*self.cells, *(self.identities or ()))
 
     @property
     def is_placed(self) -> bool:
@@ -298,6 +415,11 @@ class Survey(Answer):
     def has_chance(self) -> bool:
         """Whether a cell is probably a false detection."""
         return any(cell.chance for cell in self.cells)
+
+
+def every_seen(line: SurveyCell | SurveyIdentity) -> tuple[Seen | Detected, ...]:
+    """Returns what is known of a cell in each of its windows: first in those that list it, then in those that detect it."""
+    return (*line.seen, *line.detected) if isinstance(line, SurveyCell) else line.detected
 
 
 def timestamp(text: str) -> float:

@@ -18,7 +18,7 @@ from .columns import Column
 from .ground import Ground
 from .machine import Refused
 from .same_cell import Lines
-from .survey_data import Seen, Survey
+from .survey_data import Detected, Seen, Survey
 from .survey_windows import Window, median
 
 Square = tuple[int, int]
@@ -124,8 +124,8 @@ class Surveyed:
 
     def __init__(self, survey: Survey, squares: Squares | None) -> None:
         self.squares = squares
-        self.best: dict[Square, list[Seen]] = {}
-        self.cells: dict[int, dict[Square, list[Seen]]] = {}
+        self.best: dict[Square, list[Seen | Detected]] = {}
+        self.cells: dict[int, dict[Square, list[Seen | Detected]]] = {}
         for window in survey_windows.windows_of(survey):
             if squares and window.place and not window.is_spoiled:
                 self.add(squares.of(window.place), window)
@@ -137,9 +137,9 @@ class Surveyed:
         for one in window.sure:
             self.cells.setdefault(id(one.cell), {}).setdefault(square, []).append(one.seen)
 
-    def by_square(self, lines: Lines | None) -> dict[Square, list[Seen]]:
+    def by_square(self, lines: Lines | None) -> dict[Square, list[Seen | Detected]]:
         """Returns by squares what was measured of a cell."""
-        found: dict[Square, list[Seen]] = {}
+        found: dict[Square, list[Seen | Detected]] = {}
         for cell in lines.cells if lines else ():
             for square, seen in self.cells.get(id(cell), {}).items():
                 found.setdefault(square, []).extend(seen)
@@ -252,14 +252,14 @@ def finding_of(before: Lines | None, after: Lines | None, is_passed: bool) -> st
 
 
 def place_difference(
-    squares: Squares, square: Square, before: Sequence[Seen], after: Sequence[Seen]
+    squares: Squares, square: Square, before: Sequence[Seen | Detected], after: Sequence[Seen | Detected]
 ) -> PlaceDifference:
     """Returns what differs in a square."""
     sides = side_of(before), side_of(after)
     return PlaceDifference(squares.middle(square), *sides, difference_in(*sides))
 
 
-def side_of(seen: Iterable[Seen]) -> Side | None:
+def side_of(seen: Iterable[Seen | Detected]) -> Side | None:
     """Returns the medians over windows, or None without one."""
     every = list(seen)
     if not every:

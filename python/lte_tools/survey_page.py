@@ -30,6 +30,7 @@ def page_of(found: Survey, title: str | None = None, reports: Sequence[Report] =
         parts.append(f"<p><b>{text(found.hint)}</b>")
     parts.append(table("Cells", rows, WORDS) if rows else "<p>No cell.")
     parts += [f"<p>{text(note)}." for note in survey_table.notes_of(found)]
+    parts += [part for one in survey_table.identity_reports(found) for part in report_parts(one, found)]
     if found.is_placed:
         says = "Map: at each place the strongest cell by letter and mark, its level by size"
         parts += ["<h2>Map</h2>", image(picture_map.map_alone(found), says)]

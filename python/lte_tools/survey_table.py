@@ -5,8 +5,10 @@ from typing import Sequence
 
 from . import tables
 from .answers import STEP_HERTZ
-from .columns import BY_KEY, CHANCE, CSV_KEYS, doubt_meaning, doubt_text, table_columns
-from .survey_data import Gap, Live, Part, Scan, Step, Survey, SurveyCell
+from .columns import CHANCE, CSV_KEYS, DEEP_KEYS, IDENTITY_COLUMNS, Column
+from .columns import doubt_meaning, doubt_text, table_columns, value_of
+from .survey_data import Gap, Live, Part, Scan, Step, Survey, SurveyCell, SurveyIdentity
+from .tables import Report
 
 GAPS = 4  # between files, that the table lists
 
@@ -19,7 +21,16 @@ def rows_of(survey: Survey) -> list[dict[str, str]]:
 def table_of(survey: Survey) -> list[str]:
     """Returns the table as lines of text."""
     head, last = head_of(survey), notes_of(survey) + ([survey.hint] if survey.hint else [])
-    return [head, *tables.lines_of(table_columns(survey), survey.cells, survey), *last]
+    more = [line for one in identity_reports(survey) for line in one.lines(survey)]
+    return [head, *tables.lines_of(table_columns(survey), survey.cells, survey), *last, *more]
+
+
+def identity_reports(survey: Survey) -> list[Report]:
+    """Returns the table of the cells of which the identity alone is known, if they were asked for."""
+    if survey.identities is None:
+        return []
+    head = "identity only: cells that are detected over many half-frames, and whose MIB was not read"
+    return [Report("identities", "Identity only", head, IDENTITY_COLUMNS, survey.identities)]
 
 
 # ---- the lines below the table
@@ -125,4 +136,10 @@ def offset_text(points: tuple[tuple[float, float], ...]) -> str:
 
 def csv_of(survey: Survey) -> str:
     """Returns the table for other programs: a key a column, nothing where nothing is known, networks joined by spaces."""
-    return tables.csv_of([BY_KEY[key] for key in CSV_KEYS], survey.cells, survey)
+    keys = [*CSV_KEYS, *(() if survey.identities is None else DEEP_KEYS)]
+    return tables.csv_of([of_line(key) for key in keys], survey.lines, survey)
+
+
+def of_line(key: str) -> Column[SurveyCell | SurveyIdentity, Survey]:
+    """Returns the CSV's column of this key, for both kinds of lines."""
+    return Column(key, None, "", None, "", lambda line, survey: value_of(key, line, survey))

@@ -12,21 +12,22 @@ from typing import Iterator, NamedTuple, Sequence
 
 from . import tables, track
 from .arguments import SHORTEST
-from .columns import BY_KEY, Column, Value
-from .survey_data import Power, Seen, Survey, SurveyCell, timestamp
+from .columns import BY_KEY, Column, Value, value_of
+from .survey_data import Detected, Power, Seen, Survey, SurveyCell, SurveyIdentity, every_seen, timestamp
 
 MOST = 2_000_000  # windows whose begins are reckoned, where the survey does not name them
 SLACK = 1e-4  # seconds to which the survey's seconds are rounded
 ROUNDED = 0.002  # seconds by which the survey's times may be off, since they are rounded
+NEAR = 6  # dB below the strongest cell within which another one counts
 FOLLOWS = 1.5  # times the seconds from one window to the next up to which windows follow each other
 
 
 class InWindow(NamedTuple):
-    """A cell in a window: its number in the survey, the cell, and what was measured of it there."""
+    """A cell in a window: its number among the survey's lines, the cell, and what was measured of it there."""
 
     number: int
-    cell: SurveyCell
-    seen: Seen
+    cell: SurveyCell | SurveyIdentity
+    seen: Seen | Detected
 
     @property
     def level(self) -> float:
@@ -52,14 +53,24 @@ class Window:
     cells: tuple[InWindow, ...]
 
     @property
-    def sure(self) -> tuple[InWindow, ...]:
-        """The cells that are not false detections, the strongest first."""
+    def present(self) -> tuple[InWindow, ...]:
+        """The cells that are not false detections, also those that are detected and not listed, the strongest first."""
         return tuple(one for one in self.cells if not one.cell.chance)
 
     @property
+    def sure(self) -> tuple[InWindow, ...]:
+        """The listed cells that are not false detections, the strongest first."""
+        return tuple(one for one in self.present if isinstance(one.seen, Seen))
+
+    @property
     def strongest(self) -> InWindow | None:
-        """The strongest cell that is not a false detection, or None."""
+        """The strongest listed cell that is not a false detection, or None."""
         return next(iter(self.sure), None)
+
+    @property
+    def leader(self) -> InWindow | None:
+        """The strongest listed cell, else the strongest one that is detected, or None."""
+        return next(iter((*self.sure, *self.present)), None)
 
 
 def windows_of(survey: Survey) -> list[Window]:
@@ -68,8 +79,8 @@ def windows_of(survey: Survey) -> list[Window]:
     powers = {one.seconds: one for one in survey.powers}
     starts = starts_of(survey)
     seen: dict[float, dict[int, InWindow]] = {start: {} for start in starts}
-    for number, cell in enumerate(survey.cells):
-        for one in cell.seen:
+    for number, cell in enumerate(survey.lines):
+        for one in every_seen(cell):
             found, here = InWindow(number, cell, one), seen.setdefault(start_of(one, starts, survey.window), {})
             here[number] = max(here.get(number, found), found, key=lambda pair: pair.rank)
     times = Times(survey)
@@ -99,7 +110,7 @@ def starts_of(survey: Survey) -> list[float]:
     return sorted(known)
 
 
-def start_of(one: Seen, starts: Sequence[float], length: float) -> float:
+def start_of(one: Seen | Detected, starts: Sequence[float], length: float) -> float:
     """Returns the second at which the window of a frame begins; its own if no window is known there."""
     i = bisect.bisect_right(starts, one.seconds + SLACK) - 1
     return starts[i] if i >= 0 and one.seconds < starts[i] + length else one.seconds
@@ -141,8 +152,9 @@ def are_next(survey: Survey, one: float, other: float) -> bool:
 
 
 def strongest_of(survey: Survey) -> dict[float, InWindow]:
-    """Returns by the second at which a window begins its strongest cell that is not a false detection."""
-    return {window.seconds: window.strongest for window in windows_of(survey) if window.strongest}
+    """Returns by the second at which a window begins its strongest listed cell that is not a false detection; if there is
+    none, the strongest cell that is detected."""
+    return {window.seconds: window.leader for window in windows_of(survey) if window.leader}
 
 
 def leaders_of(survey: Survey) -> list[int]:
@@ -180,30 +192,50 @@ def lines_of(survey: Survey) -> list[Line]:
 
 def of_cell(key: str) -> Column[Line, Survey]:
     """Returns the survey's column of this key, as one of the table by window."""
-    column = BY_KEY[key]
 
     def value(line: Line, survey: Survey) -> Value:
-        return column.of(line.found.cell, survey) if line.found else None
+        return value_of(key, line.found.cell, survey) if line.found else None
 
-    return Column(key, None, column.unit, None, column.meaning, value)
+    return Column(key, None, BY_KEY[key].unit, None, BY_KEY[key].meaning, value)
 
 
 def of_seen(key: str, unit: str, meaning: str) -> Column[Line, Survey]:
     """Returns a column of what was measured in the window."""
 
     def value(line: Line, survey: Survey) -> Value:
-        found: Value = getattr(line.found.seen, key) if line.found else None
+        found: Value = getattr(line.found.seen, key, None) if line.found else None
         return found
 
     return Column(key, None, unit, None, meaning, value)
 
 
 def below_of(line: Line) -> float | None:
-    """Returns by how many dB a cell is below the strongest sure one on its carrier in its window, or None."""
+    """Returns by how many dB a cell is below the strongest one on its carrier in its window, or None."""
     if line.found is None or line.found.seen.level is None:
         return None
-    sure = [one for one in line.window.sure if one.cell.shift == line.found.cell.shift and one.seen.level is not None]
-    return round(sure[0].level - line.found.seen.level, 1) + 0.0 if sure else None
+    shift = line.found.cell.shift
+    others = [one for one in line.window.present if one.cell.shift == shift and one.seen.level is not None]
+    return round(others[0].level - line.found.seen.level, 1) + 0.0 if others else None
+
+
+def equal_modulo(modulus: int) -> Column[Line, Survey]:
+    """Returns the column of the other cells in the window whose identities are equal modulo a number."""
+
+    def value(line: Line, survey: Survey) -> Value:
+        if line.found is None or line.found not in line.window.present:
+            return None
+        cell = line.found.cell
+        others = (one.cell for one in line.window.present if one.number != line.found.number)
+        return " ".join(
+            str(other.identity)
+            for other in others
+            if other.shift == cell.shift and (other.identity - cell.identity) % modulus == 0
+        )
+
+    meaning = (
+        f"identities of the other cells on its carrier in the window that are equal to the cell's modulo {modulus}"
+    )
+    return Column(f"mod{modulus}", None, "", None, meaning, value)
 
 
 def median(values: Sequence[float | None]) -> float | None:
@@ -275,6 +307,30 @@ COLUMNS: tuple[Column[Line, Survey], ...] = (
 )
 
 
+# of a survey with cells that are detected and not listed
+DEEP_COLUMNS: tuple[Column[Line, Survey], ...] = (
+    Column(
+        "detected",
+        None,
+        "",
+        None,
+        "`yes` if the cell is detected in the window (`--deep`), and no list of it has the cell",
+        lambda line, survey: None if line.found is None else "no" if isinstance(line.found.seen, Seen) else "yes",
+    ),
+    of_seen("matches", "", "the signs of 124 that match"),
+    Column(
+        "near",
+        None,
+        "",
+        None,
+        f"`yes` if the cell is within {NEAR} dB of the strongest cell on its carrier in the window",
+        lambda line, survey: None if (below := below_of(line)) is None else "yes" if below <= NEAR else "no",
+    ),
+    *map(equal_modulo, (3, 30)),
+)
+
+
 def csv_of(survey: Survey) -> str:
     """Returns the table by window for other programs."""
-    return tables.csv_of(COLUMNS, lines_of(survey), survey)
+    more = () if survey.identities is None else DEEP_COLUMNS
+    return tables.csv_of((*COLUMNS, *more), lines_of(survey), survey)

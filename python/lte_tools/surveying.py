@@ -14,7 +14,7 @@ from typing import Any, Callable, Iterator, Sequence, TypeVar
 
 import numpy as np
 
-from . import hints, levels, live, machine, places, radio_file, scan, wide
+from . import hints, identities, levels, live, machine, places, radio_file, scan, wide
 from .cells import SeenCell, joined
 from .continuity import as_one
 from .options import SurveyOptions
@@ -78,18 +78,20 @@ def surveyed(options: SurveyOptions, file: RadioFile, ask: Ask) -> Survey:
     if points:
         offsets = np.interp(range(len(tasks)), [i for i, _ in points], [offset for _, offset in points])
     tasks = [task.with_offset(float(offset)) for task, offset in zip(tasks, offsets)]
-    looked = ask("cells", levels.looked_at, tasks)
-    found = [sightings for sightings, _ in looked]
+    looked = ask("cells", functools.partial(levels.looked_at, is_deep=options.deep), tasks)
+    found = [one.listed for one in looked]
     lines = joined(flat(found))
     wide.inform(ask, lines)
     cells, jumps = as_one(lines)
-    known = [power for _, power in looked if power is not None]
-    powers, steps = levels.even(cells, known, options.gain, levels.rounding_of(file))
+    others = identities.joined((one for each in looked for one in each.detected), cells, jumps)
+    known = [one.power for one in looked if one.power is not None]
+    powers, steps = levels.even(cells, known, options.gain, levels.rounding_of(file), others)
     is_none = all(cell.is_chance(cells) for cell in cells)
-    hint = why_none(ask, tasks, found, cells) if is_none else hints.of_cancelling(cells, file)
+    hint = why_none(ask, tasks, found, cells) if is_none else None if options.deep else hints.of_cancelling(cells, file)
     spoiled = [round(task.start, 6) for task, one in zip(tasks, found) if one is None]
     asked = [(round(tasks[i].start, 6), round(offset, 1)) for i, offset in points]
-    return survey_of_cells(options, file, cells, Looked(len(tasks), spoiled, asked, jumps, powers, steps), hint)
+    whole = Looked(len(tasks), spoiled, asked, jumps, powers, steps, others if options.deep else None)
+    return survey_of_cells(options, file, cells, whole, hint)
 
 
 def flat(found: Sequence[list[Sighting] | None]) -> list[Sighting]:

@@ -9,7 +9,19 @@ import struct
 import numpy as np
 import pytest
 
-from lte_tools import machine, names, options, radio, radio_file, summary, survey_data, survey_table, surveying, wav
+from lte_tools import (
+    levels,
+    machine,
+    names,
+    options,
+    radio,
+    radio_file,
+    summary,
+    survey_data,
+    survey_table,
+    surveying,
+    wav,
+)
 from tests.test_one_line import sighting
 
 UTC = datetime.timezone.utc
@@ -271,7 +283,7 @@ def seen_in(task):
         one = sighting(identity, 0, 0)
         line = dataclasses.replace(one.line, at=at, sfn=(sample + at - begin) // radio.FRAME % 1024)
         found.append(dataclasses.replace(one, task=task, line=line))
-    return found, survey_data.Power(round(task.start, 6), -30.0, -70.0)
+    return levels.InWindow(found, survey_data.Power(round(task.start, 6), -30.0, -70.0))
 
 
 @pytest.mark.parametrize("is_sigmf", [False, True])

@@ -139,7 +139,10 @@ def test_cell_that_cannot_be_cancelled(seen, recording, sent):
         return hints.of_cancelling([SeenCell(dataclasses.replace(one, level=level, offset=offset))], of)
 
     assert hint(-37.5, 59) is None and hint(-20, 900, dataclasses.replace(file, form="u8")) is None
-    assert "PCI 217 hides a weaker cell: divide the samples by 2, since" in hint(-37.3, 0)
+    assert (
+        "PCI 217 hides a weaker cell: --deep detects its identity; for its MIB divide the samples by 2, since"
+        in hint(-37.3, 0)
+    )
     assert "divide the samples by 8 and correct the offset of -100 Hz" in hint(-20, -100)
     assert hints.of_cancelling([SeenCell(one), SeenCell(dataclasses.replace(one, level=-20))], file) is None
 

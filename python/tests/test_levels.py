@@ -58,7 +58,7 @@ def test_power_of_a_window(tmp_path, noise):
     assert levels.power_of(task, samples_of(task)) == Power(0, None, None)
     np.full(60_000, np.nan, "<f4").tofile(tmp_path / "x.ci16")
     spoiled = dataclasses.replace(file, form="f32")
-    assert levels.looked_at(Task(spoiled, 0, 0.01)) == (None, None)
+    assert levels.looked_at(Task(spoiled, 0, 0.01)) == (None, None, ())
     assert live.look(Task(spoiled, 0, 0.01), True, frozenset()) == (None, None)
 
 

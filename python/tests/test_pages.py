@@ -31,14 +31,15 @@ def with_cells(survey, count):
 
 
 def test_csv_keys_are_those_of_columns():
-    assert sorted(columns.CSV_KEYS) == sorted(columns.BY_KEY)
+    keys = {*columns.CSV_KEYS, *columns.DEEP_KEYS}
+    assert keys == {*columns.BY_KEY, *columns.OF_IDENTITY} and len(keys) == len(columns.CSV_KEYS + columns.DEEP_KEYS)
 
 
 def test_page_names_each_key():
     formats = (TOP / "docs/FORMATS.md").read_text()
     section = formats.partition("--csv`\n")[2].partition("\n###")[0]
     words = set(re.findall(r"\w+", section))
-    assert [key for key in columns.CSV_KEYS if key not in words] == []
+    assert [key for key in columns.CSV_KEYS + columns.DEEP_KEYS if key not in words] == []
 
 
 def test_words_have_meanings():
@@ -73,10 +74,10 @@ def test_meaning_of_a_word(heading, word, text):
 
 def test_schema_has_the_fields_of_the_survey(survey):
     defined = foreign.schema()["$defs"]
-    tables = {"clashes", "coverage", "plan"}
-    assert set(survey.to_json()) | {"live", "parts", "scan", "track"} | tables == set(defined["survey"]["properties"])
+    more = {"clashes", "coverage", "plan", "identities", "live", "parts", "scan", "track"}
+    assert set(survey.to_json()) | more == set(defined["survey"]["properties"])
     cell = dataclasses.replace(survey.cells[0], shift=0.0)
-    assert set(cell.to_json()) == set(defined["surveyed"]["properties"])
+    assert set(cell.to_json(is_deep=True)) == set(defined["surveyed"]["properties"])
     assert set(cell.to_json(True)["seen"][0]) == set(defined["sighting"]["properties"])
 
 

@@ -98,7 +98,7 @@ def test_survey_that_is_read_needs_no_filter(command):
 @pytest.mark.parametrize(
     "head, columns",
     [
-        ("--csv-windows`", survey_windows.COLUMNS),
+        ("--csv-windows`", survey_windows.COLUMNS + survey_windows.DEEP_COLUMNS),
         ("--plan`", plan.COLUMNS),
         ("--clashes`", clashes.COLUMNS),
         ("--coverage`", coverage.COLUMNS),
