@@ -22,7 +22,7 @@ from .answers import Answer
 from .columns import Column
 from .ground import distance
 from .machine import Refused
-from .same_cell import Lines, lines_of
+from .same_cell import Lines, identities_of, lines_of
 from .survey_data import Survey
 
 MOST_BYTES = 64_000_000
@@ -50,7 +50,7 @@ FINDINGS = {
     "wrong-area": "the planned cell has another tracking area",
     "reuse": "another cell of the survey has this physical-layer identity too",
     "not-planned": "the plan does not have this cell",
-    "not-heard": "no window lists this planned cell",
+    "not-heard": "no window lists or detects this planned cell",
     "identity-only": "a planned cell has this identity; SIB1 was not read, or the plan has no cell identity",
     "as-planned": "identity and tracking area are as planned",
 }
@@ -189,7 +189,7 @@ class Finding(Answer):
 def findings_of(survey: Survey, plan: Sequence[Planned]) -> list[Finding]:
     """Returns how a survey and a plan differ, the gravest first, and what is as planned last. Planned cells on carriers that
     the survey did not look at are left out, and so are false detections."""
-    detected, order = lines_of(survey), list(FINDINGS)
+    detected, order = [*lines_of(survey), *identities_of(survey)], list(FINDINGS)
     plan = [one for one in plan if is_looked_at(one, survey)]
     index = Index(plan)
     found, met = [], set[Planned]()

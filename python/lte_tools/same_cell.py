@@ -6,7 +6,7 @@ from __future__ import annotations
 from typing import NamedTuple, Union
 
 from .answers import Sib1
-from .survey_data import Seen, Survey, SurveyCell
+from .survey_data import Seen, Survey, SurveyCell, SurveyIdentity
 
 Key = tuple[Union[str, int, float, None], ...]
 
@@ -15,7 +15,7 @@ class Lines(NamedTuple):
     """The lines of one cell, those of most windows first, and its carrier in hertz, or None."""
 
     key: Key
-    cells: tuple[SurveyCell, ...]
+    cells: tuple[SurveyCell | SurveyIdentity, ...]
     frequency: float | None
 
     @property
@@ -32,7 +32,7 @@ class Lines(NamedTuple):
 
     @property
     def seen(self) -> list[Seen]:
-        return [one for cell in self.cells for one in cell.seen]
+        return [one for cell in self.cells if isinstance(cell, SurveyCell) for one in cell.seen]
 
     @property
     def level(self) -> float | None:
@@ -71,3 +71,9 @@ def lines_of(survey: Survey) -> list[Lines]:
             cells = sorted((*before.cells, cell), key=lambda one: -one.windows)
             found[key] = before._replace(cells=tuple(cells))
     return list(found.values())
+
+
+def identities_of(survey: Survey) -> list[Lines]:
+    """Returns the cells of which the identity alone is known."""
+    carrier = survey.carrier
+    return [Lines(("identity", one.identity, carrier), (one,), carrier) for one in survey.identities or ()]

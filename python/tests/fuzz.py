@@ -19,7 +19,7 @@ import tempfile
 import numpy as np
 
 from lte_tools import clashes, coverage, diff, kml, machine, options, pcap, places, plan, radio_file, summary
-from lte_tools import survey_diff, survey_page, survey_windows, tables, track
+from lte_tools import survey_diff, survey_page, survey_table, survey_windows, tables, track
 from lte_tools.survey_data import Survey
 
 TOP = pathlib.Path(__file__).resolve().parents[2]
@@ -224,8 +224,10 @@ def try_tables(draw, folder):
     value["track"] = {"first": "", "last": "", "places": 1, "windows": [[0, 13.4, 52.5], [0.17, 13.4, 52.5001]]}
     value["cells"][0]["seen"][0]["place"] = [13.4, 52.5]
     value["cells"] *= 2
+    if draw.random() < 0.5:
+        value["identities"] = [identity()]
     survey = read_survey(draw, folder / "a.json", value)
-    survey_windows.csv_of(survey)
+    survey_windows.csv_of(survey), survey_table.csv_of(survey), survey_table.table_of(survey)
     tables.csv_of(clashes.COLUMNS, clashes.clashes_of(survey, 6), survey)
     tables.csv_of(coverage.COLUMNS, coverage.coverage_of(survey, coverage.Limits(-80, 5)), survey)
     places.geojson_text(survey), kml.of_survey(survey)
@@ -235,6 +237,14 @@ def try_tables(draw, folder):
     if draw.random() < 0.02 and found.square:
         diff.draw(folder / "a.png", found)
         (folder / "a.png").unlink()
+
+
+def identity():
+    """A cell of which the identity alone is known, in two windows."""
+    seen = {"at": 9, "below": 9.0, "datetime": None, "gain": 0.0, "level": -60.0, "matches": 100, "place": [13.4, 52.5]}
+    times = {"first": 0.0, "last": 0.17, "datetime": None, "windows": 2}
+    detected = [{**seen, "seconds": second} for second in (0.0, 0.17)]
+    return {**times, "identity": 88, "level": -60.0, "below": 9.0, "matches": 100, "detected": detected}
 
 
 def read_survey(draw, path, value):

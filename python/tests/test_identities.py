@@ -10,7 +10,7 @@ import pytest
 
 import lte_tools
 from lte_reference import cell as reference_cell
-from lte_tools import clashes, coverage, foreign, identities, kml, levels, picture_map, places, radio, survey_page
+from lte_tools import clashes, coverage, foreign, identities, kml, levels, picture_map, plan, places, radio, survey_page
 from lte_tools import survey_table, survey_windows, tables
 from lte_tools.answers import DetectedCell
 from lte_tools.cells import joined
@@ -201,6 +201,13 @@ def test_clashes_and_coverage_count_identities(deep_survey):
         ("others", 0): 1,
         ("others", 1): 2,
     }
+
+
+def test_plan_counts_identities(deep_survey, tmp_path):
+    path = tmp_path / "sites.csv"
+    path.write_text("name,pci,enodeb,sector\nA,271,107216,1\nB,274,5,1\nC,275,5,2\n")
+    found = {one.name: (one.finding, one.windows) for one in plan.findings_of(deep_survey, plan.read(path))}
+    assert found == {"A": ("as-planned", 1), "B": ("identity-only", 3), "C": ("not-heard", 0)}
 
 
 def test_places_have_identities(deep_survey):
