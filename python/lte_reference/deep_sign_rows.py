@@ -62,18 +62,23 @@ def secondary_wave(n1, n2, half):
     return np.stack([rounded((values * w[5:67]).sum(0), 17) for w in (W_REAL, W_IMAG)], 1)
 
 
-def recording(made):
-    draw = drawn(made.seed)
-    r = np.array([next(draw) % (2 * made.level + 1) - made.level for _ in range(2 * SAMPLES)]).reshape(SAMPLES, 2)
-    r += made.constant
+def noise(level, seed, constant):
+    draw = drawn(seed)
+    return np.array([next(draw) % (2 * level + 1) - level for _ in range(2 * SAMPLES)]).reshape(SAMPLES, 2) + constant
+
+
+def send(r, gain, n1, n2, half, t):
+    """Adds the two signals of a cell in each of six half-frames."""
     for h in range(6):
-        half = (made.half, 5 - made.half)[h % 2]
-        for at, wave in (
-            (made.t - 137, secondary_wave(made.n1, made.n2, half)),
-            (made.t, np.stack(deep.WAVES[made.n2], 1)),
-        ):
+        own = (half, 5 - half)[h % 2]
+        for at, wave in ((t - 137, secondary_wave(n1, n2, own)), (t, np.stack(deep.WAVES[n2], 1))):
             room = max(0, min(128, SAMPLES - at - 9_600 * h))
-            r[at + 9_600 * h :][:room] += made.gain * wave[:room]
+            r[at + 9_600 * h :][:room] += gain * wave[:room]
+
+
+def recording(made):
+    r = noise(made.level, made.seed, made.constant)
+    send(r, made.gain, made.n1, made.n2, made.half, made.t)
     return np.clip(r, -32_768, 32_767)
 
 

@@ -1,5 +1,5 @@
 //! The list of cells that are detected over many half-frames: candidates of the primary signals at which the secondary signal is detected, without echoes.
-//! Tests: none yet.
+//! Tests: the crate `accumulated_tests`.
 #![tactic(auto)]
 
 mod cell;

@@ -3,6 +3,10 @@
 #![tactic(auto)]
 
 #[cfg(test)]
+mod lists;
+#[cfg(test)]
 mod primary_candidates;
+#[cfg(test)]
+mod recordings;
 #[cfg(test)]
 mod secondary_signs;

@@ -2,6 +2,7 @@
 
 ghost use Rattle.std.specs.Prelude.{◌≤◌};
 
+use crate::recordings::next;
 use accumulated_pss::{Accumulated, accumulate, candidates, half_frames};
 use cs_num::Sample;
 use sample_file::Recording;
@@ -75,11 +76,6 @@ fn are_candidates(
 }
 
 // ---- recordings
-
-// Returns the next state of the generator in `python/lte_reference/wide_rows.py`.
-fn next(state: u32) -> u32 {
-    state.wrapping_mul(1_103_515_245).wrapping_add(12_345) & 0x7fff_ffff
-}
 
 // Returns a component, -2,000 to 2,000.
 fn component(state: u32) -> i16 {
