@@ -3,7 +3,7 @@
 ghost use Rattle.std.specs.Prelude.{◌≡◌, ◌≤◌, ◌++◌, ◌∷◌, [], All, IfOk, cond};
 ghost use Rattle.std.specs.List.{list_any};
 ghost use Rattle.accumulated_pss.specs.Sums.{IsPosition, row_in};
-ghost use Rattle.accumulated_pss.specs.Maxima.{distance as distance_of, precedes as precedes_of};
+ghost use Rattle.accumulated_pss.specs.Maxima.{distance as distance_of};
 ghost use Rattle.accumulated_list.specs.Steps.{is_echo as is_echo_of, is_no_echo, without_echoes};
 
 use crate::cell::DetectedCell;
@@ -76,7 +76,7 @@ fn is_echo(sums: &Accumulated, n2: u8, other: &DetectedCell, cell: &DetectedCell
     ensures { result ≡ is_echo_of (row_in sums.now n2) other.now cell.now }
 {
     let is_near = distance(other.position, cell.position) <= ECHO;
-    let is_first = precedes(sums, n2, other.position, cell.position);
+    let is_first = sums.precedes(n2, other.position, cell.position);
     other.id.value() == cell.id.value() && is_near && is_first
 }
 
@@ -90,17 +90,4 @@ fn distance(t: u32, u: u32) -> u32
     let forwards = (u + circle - t) % circle;
     let backwards = (t + circle - u) % circle;
     forwards.min(backwards)
-}
-
-// Returns whether position `t` precedes `u` for the primary signal `n2`: by greater sum, then by position.
-#[tactic(auto, using(std::proofs::lemmas::Bool::Decides::nat_tests), unfolding(accumulated_pss::specs::Maxima::precedes))]
-fn precedes(sums: &Accumulated, n2: u8, t: u32, u: u32) -> bool
-    requires member { n2 ≤ 2 }
-    requires first { IsPosition t }
-    requires second { IsPosition u }
-    ensures { result ≡ precedes_of (row_in sums.now n2) t u }
-{
-    let first = sums.sum(n2, t);
-    let second = sums.sum(n2, u);
-    second < first || (first == second && t < u)
 }

@@ -112,7 +112,7 @@ fn rank(row: &[u32], maxima: &[u32], t: u32) -> usize
 
 // Returns whether position `t` precedes `u`: its sum is greater, or equal and `t` is earlier.
 #[tactic(auto, using(std::proofs::lemmas::Bool::Decides::nat_tests), unfolding(crate::specs::Maxima::precedes))]
-fn precedes(row: &[u32], t: u32, u: u32) -> bool
+pub(crate) fn precedes(row: &[u32], t: u32, u: u32) -> bool
     requires count { length row.now ≡ half_frame_length }
     requires t { IsPosition t }
     requires u { IsPosition u }

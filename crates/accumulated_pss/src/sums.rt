@@ -7,8 +7,10 @@ ghost use Rattle.pss_search.specs.Hits.{first_place};
 ghost use Rattle.pss_search.specs.Metrics.{end_place};
 ghost use Rattle.accumulated_pss.specs.Sums.{IsPosition, half_frames_in, one, ratio_of, rows_of};
 ghost use Rattle.accumulated_pss.specs.Sums.{row_in, sum_at};
+ghost use Rattle.accumulated_pss.specs.Maxima.{precedes as precedes_of};
 ghost use Rattle.accumulated_pss.specs.Steps.{with_ratios, HasRoom, AreRows};
 
+use crate::choose::precedes;
 use crate::half_frame::window;
 use crate::row::Row;
 use cs_num::Sample;
@@ -79,6 +81,17 @@ impl Accumulated {
         ensures { result ≡ sum_at (row_in self.now n2) t }
     {
         self.row(n2)[t as usize - FIRST_POSITION]
+    }
+
+    /// Returns whether position `t` precedes position `u`, 137 to 9,736, for the primary signal `n2`, 0 to 2: its sum is
+    /// greater, or equal and `t` is earlier. (own)
+    pub fn precedes(&self, n2: u8, t: u32, u: u32) -> bool
+        requires n2 { n2 ≤ 2 }
+        requires t { IsPosition t }
+        requires u { IsPosition u }
+        ensures { result ≡ precedes_of (row_in self.now n2) t u }
+    {
+        precedes(self.row(n2), t, u)
     }
 
     // Returns the sums for the primary signal `n2`, 0 to 2, by position.
