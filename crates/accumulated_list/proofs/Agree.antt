@@ -1,13 +1,15 @@
 -- Recordings that agree in the samples that the half-frames cover have one list.
-use Rattle.std.proofs.Common.{◌≡◌, ◌∙◌, ℕ, ◌+◌, ◌*◌, List, arith, ap, sym, subst}
+use Rattle.std.proofs.Common.{◌≡◌, ◌∙◌, ℕ, ◌≤◌, List, take, arith, ap, sym, subst}
+use Rattle.std.proofs.lemmas.List.{take-take}
 use Rattle.cs_num.specs.declared.Sample.{Sample}
 use Rattle.sample_file.specs.Recording.{AgreeBefore}
 use Rattle.accumulated_pss.specs.Sums.{IsPosition, accumulated, covered, row_of, sum_at}
 use Rattle.accumulated_pss.specs.Maxima.{IsCandidate, precedes}
 use Rattle.accumulated_pss.proofs.Rows.{rows_hold_sums, first_samples_decide}
 use Rattle.accumulated_sss.specs.declared.detecting.Detection.{Detection}
+use Rattle.accumulated_sss.specs.Signs.{last_end}
 use Rattle.accumulated_sss.specs.Detection.{IsDetection}
-use Rattle.accumulated_sss.proofs.Agree.{covered_samples_decide}
+use Rattle.accumulated_sss.proofs.Agree.{first_samples_decide as first_decide}
 use Rattle.accumulated_sss.proofs.Detections.{detection_is_right}
 use Rattle.accumulated_list.specs.declared.cell.DetectedCell.{DetectedCell}
 use Rattle.accumulated_list.specs.Cells.{IsDetected, IsEcho, IsListed, cell_with, cell_at}
@@ -26,10 +28,13 @@ module _ (halves : ℕ) (a b : List Sample) (agree : AgreeBefore (covered halves
 
   detections_agree : (n2 t : ℕ) (found : Detection) → IsPosition t → IsDetection a halves t n2 found → IsDetection b halves t n2 found
   detections_agree n2 t found p is =
-      let count : covered halves ≡ 9600 * halves + 264 = omega arith in
-      let agree_there = subst (λ n. AgreeBefore n a b) count agree in
+      let end = last_end halves t in
+      let last = p.to_last in
+      let before : end ≤ covered halves = omega (arith, last) in
+      let agree_there : AgreeBefore end a b =
+      sym (take-take end (covered halves) a before) ∙ ap (take end) agree ∙ take-take end (covered halves) b before in
       (detection_is_right b halves t n2 found).0
-      (sym (covered_samples_decide a b halves t n2 agree_there p.to_last) ∙ (detection_is_right a halves t n2 found).1 is)
+      (sym (first_decide a b halves t n2 agree_there) ∙ (detection_is_right a halves t n2 found).1 is)
 
   pub detected_agree : (cell : DetectedCell) → IsDetected a halves cell → IsDetected b halves cell
   detected_agree cell is =

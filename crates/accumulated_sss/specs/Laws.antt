@@ -1,9 +1,9 @@
 -- Laws of detection: it is the best pair, few samples decide it, and how rarely signs match by coincidence. (own)
-use Rattle.std.specs.Prelude.{◌≡◌, ◌↔◌, ℕ, ◌+◌, ◌*◌, ◌^◌, ◌≤◌, List, length, ℤ, Some}
+use Rattle.std.specs.Prelude.{◌≡◌, ◌↔◌, ℕ, ◌*◌, ◌^◌, ◌≤◌, List, length, ℤ, Some}
 use Rattle.cs_num.specs.declared.Sample.{Sample}
-use Rattle.lte_types.specs.Numerology.{half_frame_length}
 use Rattle.sample_file.specs.Recording.{AgreeBefore}
 use Rattle.accumulated_sss.specs.declared.detecting.Detection.{Detection}
+use Rattle.accumulated_sss.specs.Signs.{last_end}
 use Rattle.accumulated_sss.specs.Detection.{IsDetection, detection_at}
 use Rattle.accumulated_sss.specs.Patterns.{AreSigns, all_patterns, coincidences}
 
@@ -19,13 +19,9 @@ abbrev pub OnlyOneDetection : Type 0
 OnlyOneDetection = (recording : List Sample) (halves t n2 : ℕ) (first second : Detection) →
     IsDetection recording halves t n2 first → IsDetection recording halves t n2 second → first ≡ second
 
--- how many samples `halves` half-frames cover: up to the end of the useful part at the last position, 9,736
-abbrev pub covered : ℕ → ℕ
-covered halves = half_frame_length * halves + 264
-
--- a law: recordings that agree in the samples that the half-frames cover have equal detections
-abbrev pub CoveredSamplesDecide : Type 0
-CoveredSamplesDecide = (a b : List Sample) (halves t n2 : ℕ) → AgreeBefore (covered halves) a b → t ≤ 9736 →
+-- a law: recordings that agree up to the end of the last primary symbol have equal detections
+abbrev pub FirstSamplesDecide : Type 0
+FirstSamplesDecide = (a b : List Sample) (halves t n2 : ℕ) → AgreeBefore (last_end halves t) a b →
     detection_at a halves t n2 ≡ detection_at b halves t n2
 
 -- ---- coincidences

@@ -7,7 +7,7 @@ use Rattle.finite.specs.Sums.{sum_below, total_below}
 use Rattle.cs_num.specs.declared.Sample.{Sample}
 use Rattle.lte_types.specs.declared.frame.Half.{Half}
 use Rattle.lte_types.specs.declared.frame.Half.TheVariants.{Zero, Five}
-use Rattle.lte_types.specs.Numerology.{half_frame_length}
+use Rattle.lte_types.specs.Numerology.{half_frame_length, useful_length}
 use Rattle.sync_seq.specs.Secondary.{sss_at}
 use Rattle.accumulated_sss.specs.Votes.{vote}
 
@@ -20,6 +20,10 @@ half_count halves parity = (halves + 1 - parity) / 2
 -- the first sample of the primary symbol's useful part in half-frame `h`, for a candidate at position `t`
 abbrev pub primary_at : ℕ → ℕ → ℕ
 primary_at t h = t + half_frame_length * h
+
+-- the end of the primary symbol's useful part in the last of `halves` half-frames, for a candidate at position `t`
+abbrev pub last_end : ℕ → ℕ → ℕ
+last_end halves t = primary_at t halves + useful_length - half_frame_length
 
 -- the sum over the half-frames `parity`, `parity` + 2 and so on among the first `halves`; `f` has a value for each
 -- sample at which the primary symbol of a half-frame begins

@@ -5,10 +5,9 @@ ghost use Rattle.finite.specs.Sizes.{AllWithin};
 ghost use Rattle.finite.specs.Lists.{values_below};
 ghost use Rattle.lte_types.specs.Numerology.{normal, subcarriers, symbol_step};
 ghost use Rattle.pss_search.specs.Correlation.{pss_grid, wave_list};
-ghost use Rattle.accumulated_sss.specs.Signs.{next_half as half_after};
+ghost use Rattle.accumulated_sss.specs.Signs.{last_end, next_half as half_after};
 ghost use Rattle.accumulated_sss.specs.Detection.{IsDetection, above_0, detection_at, power_of};
 ghost use Rattle.accumulated_sss.specs.Steps.{signal_sum_by};
-ghost use Rattle.accumulated_sss.specs.Laws.{covered};
 
 use crate::best::{Pair, most_matching};
 use crate::matching::{signed_sum, signs};
@@ -36,13 +35,12 @@ pub struct Detection {
     pub power: u64,
 }
 
-/// Detects a cell at position `t`, 137 to 9,736, of the primary signal `n2` in the first `halves` half-frames, at least
-/// one, which the recording covers. Returns `None` if fewer than 93 of 124 signs match. (own)
+/// Detects a cell at position `t`, at least 137, of the primary signal `n2` in the first `halves` half-frames, at least
+/// one; the recording has their primary symbols. Returns `None` if fewer than 93 of 124 signs match. (own)
 pub fn detect(recording: &Recording, halves: usize, t: usize, n2: u8) -> Option<Detection>
     requires first { symbol_step normal ≤ t }
-    requires last { t ≤ 9736 }
     requires some { 1 ≤ halves }
-    requires covered { covered halves ≤ length recording.now }
+    requires covered { last_end halves t ≤ length recording.now }
     requires member { n2 ≤ 2 }
     ensures value { result ≡ detection_at recording.now halves t n2 }
     ensures right { IfSome result (IsDetection recording.now halves t n2) }

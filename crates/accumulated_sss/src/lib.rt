@@ -9,17 +9,17 @@ mod matching;
 mod rows;
 mod votes;
 
-ghost use Rattle.accumulated_sss.specs.Laws.{DetectionIsRight, OnlyOneDetection, CoveredSamplesDecide};
+ghost use Rattle.accumulated_sss.specs.Laws.{DetectionIsRight, OnlyOneDetection, FirstSamplesDecide};
 ghost use Rattle.accumulated_sss.specs.Laws.{PatternsAreAll, CoincidencesAreCounted, CoincidencesAreFew, CoincidencesAreRare};
 
 pub use detecting::{Detection, detect};
 
 /// A law: `detection_at`, which `detect` returns, is exactly the detection at a position, and there is at most one. The
-/// samples that the half-frames cover decide it.
+/// samples up to the end of the last primary symbol decide it.
 pub fn detection_is_right()
     ensures right { DetectionIsRight }
     ensures only { OnlyOneDetection }
-    ensures covered { CoveredSamplesDecide }
+    ensures decided { FirstSamplesDecide }
 {}
 
 /// A law: whatever 124 signs are given, 234,004,971,861,876,424,919,930,303,080 of the 2^124 patterns match them in at

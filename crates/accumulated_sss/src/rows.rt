@@ -2,11 +2,11 @@
 
 ghost use Rattle.std.specs.Prelude.{◌≡◌, ◌+◌, ◌*◌, ◌^◌, ◌≤◌, length};
 ghost use Rattle.finite.specs.Sizes.{AllWithin};
-ghost use Rattle.lte_types.specs.Numerology.{half_frame_length, normal, symbol_step};
+ghost use Rattle.lte_types.specs.Numerology.{most_samples, normal, symbol_step};
 ghost use Rattle.pss_search.specs.Correlation.{wave_list};
 ghost use Rattle.accumulated_sss.specs.Votes.{product, vote};
 ghost use Rattle.accumulated_sss.specs.Steps.{added as added_lists, row_of};
-ghost use Rattle.accumulated_sss.specs.Laws.{covered};
+ghost use Rattle.accumulated_sss.specs.Signs.{last_end};
 
 use crate::votes::{energy_of_both, products, votes_for};
 use cs_num::Cpx;
@@ -31,9 +31,8 @@ pub(crate) fn row(
     parity: usize,
 ) -> Sums
     requires first { symbol_step normal ≤ t }
-    requires last { t ≤ 9736 }
-    requires covered { covered halves ≤ length recording.now }
-    requires few { halves ≤ 199 }
+    requires covered { last_end halves t ≤ length recording.now }
+    requires long { length recording.now ≤ most_samples }
     requires member { n2 ≤ 2 }
     requires wave { wave.now ≡ wave_list n2 }
     requires parity { parity ≤ 1 }
