@@ -48,14 +48,32 @@ class SeenCell:
         self.seen = [one.later(samples) if one.seconds > second else one for one in self.seen]
 
     def is_same(self, new: Sighting) -> bool:
-        """Returns whether a later sighting is of this cell, as far as a radio's clock and offset allow."""
+        """Returns whether a later sighting is of this cell, as far as a radio's clock, its offset and SIB1 allow."""
+        return self.is_in_time_with(new) and not self.contradicts(new.line)
+
+    def is_in_time_with(self, new: Sighting) -> bool:
+        """Returns whether a later sighting has this cell's identity, frames and offset."""
         last = self.seen[-1]
         cycle = CYCLE if self.repeats is None else radio.FRAME * (self.repeats or 1)
-        return (
-            last.line.identity == new.line.identity
-            and distance(last.epoch, new.epoch, cycle) <= NEAR + CLOCK * radio.RATE * (new.seconds - last.seconds)
-            and last.has_offset_of(new)
-        )
+        return last.line.identity == new.line.identity and apart(last, new, cycle) <= 1 and last.has_offset_of(new)
+
+    def contradicts(self, line: Cell) -> bool:
+        """Returns whether SIB1 of a line names another cell than this one's last SIB1."""
+        return line.sib1 is not None and any(names_another(one.line, line) for one in self.last_with_sib1())
+
+    def last_with_sib1(self) -> list[Sighting]:
+        """Returns the last sighting with SIB1, if there is one."""
+        return next(([one] for one in reversed(self.seen) if one.line.sib1), [])
+
+    def give(self, new: Sighting) -> list[Sighting]:
+        """Removes and returns the sightings after the last SIB1 that are nearer in time to one with another SIB1."""
+        (last,) = self.last_with_sib1()
+        kept, given = list[Sighting](), list[Sighting]()
+        for one in self.seen:
+            is_nearer = one.seconds > last.seconds and apart(one, new) < apart(last, one)
+            (given if is_nearer else kept).append(one)
+        self.seen = kept
+        return given
 
     @property
     def windows(self) -> int:
@@ -121,6 +139,18 @@ class SeenCell:
         )
 
 
+def names_another(one: Cell, other: Cell) -> bool:
+    """Returns whether SIB1 of two lines has another network or cell identity."""
+    parts = [(line.sib1.networks[0], line.sib1.cell) for line in (one, other) if line.sib1]
+    return len(set(parts)) > 1
+
+
+def apart(one: Sighting, other: Sighting, cycle: int = CYCLE) -> float:
+    """Returns the difference of two sightings' epochs, as a fraction of what a radio's clock allows."""
+    allowed = NEAR + CLOCK * radio.RATE * abs(other.seconds - one.seconds)
+    return distance(one.epoch, other.epoch, cycle) / allowed
+
+
 C = TypeVar("C", bound=SeenCell)
 
 
@@ -136,11 +166,21 @@ def add_sighting(cells: list[C], one: Sighting, kind: type[C]) -> C:
     """Adds a sighting to the cell of its kind that was seen last, moves that to the end, and returns it."""
     cell = next((cell for cell in reversed(cells) if cell.is_same(one)), None)
     if cell is None:
-        cell = kind(one)
+        cell = begun(cells, one, kind)
     else:
         cells.remove(cell)
         cell.add(one)
     cells.append(cell)
+    return cell
+
+
+def begun(cells: Sequence[C], one: Sighting, kind: type[C]) -> C:
+    """Returns a new cell, with the sightings before its first SIB1 that another cell of its identity was given."""
+    given = [each for cell in cells if cell.is_in_time_with(one) for each in cell.give(one)]
+    first, *later = [*sorted(given, key=lambda each: each.seconds), one]
+    cell = kind(first)
+    for each in later:
+        cell.add(each)
     return cell
 
 

@@ -182,7 +182,8 @@ def rejoined(cells: Sequence[C], jump: Jump) -> list[C]:
         cell.correct(jump.seconds, jump.samples)
     for cell in sorted(cells, key=lambda cell: cell.seen[0].seconds):
         first = cell.seen[0]
-        same = [one for one in found if one.seen[-1].seconds <= first.seconds and one.is_same(first)]
+        before = [one for one in found if one.seen[-1].seconds <= first.seconds and not one.contradicts(cell.line)]
+        same = [one for one in before if one.is_same(first)]
         if same:
             max(same, key=lambda one: one.seen[-1].seconds).take(cell)
         else:

@@ -113,6 +113,11 @@ class LiveCell(SeenCell):
         if len(self.seen) >= 2 * KEPT:
             self.keep(KEPT)
 
+    def give(self, new: Sighting) -> list[Sighting]:
+        given = super().give(new)
+        self.count -= len({one.task.start for one in given})
+        return given
+
     def keep(self, last: int) -> None:
         """Keeps the first, the strongest, one that says most, and `last` of the last."""
         most = max(self.seen, key=lambda one: (saying(one.line), one.unread is not None))

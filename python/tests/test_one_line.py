@@ -19,12 +19,13 @@ EVERY = 17 * radio.FRAME  # samples from one window to the next
 FILE = RadioFile(None, "s16", radio.RATE, 10**9, 0, 0)
 
 
-def sighting(identity, window, begin, sfn=None, has_sib1=True, every=EVERY):
+def sighting(identity, window, begin, sfn=None, has_sib1=True, every=EVERY, cell=27_447_297):
     """A cell in a window: its first frame there, if frame 0 begins at sample `begin` of the file."""
     start = window * every
     at = (begin - start) % radio.FRAME
     number = (start + at - begin) // radio.FRAME % 1024 if sfn is None else sfn
     line = Cell.from_json({**LINE, "identity": identity, "at": at, "sfn": number})
+    line = dataclasses.replace(line, sib1=dataclasses.replace(line.sib1, cell=cell))
     if not has_sib1:
         line = dataclasses.replace(line, sib1=None, no_sib1="bandwidth")
     return Sighting(
@@ -108,6 +109,26 @@ def test_cells_of_one_identity_at_one_time_stay_apart():
     assert lines == [(30, 6), (30, 6)] and jumps == []
 
 
+def other_cell_later():
+    """A cell, and from window 60 on another cell with its identity: 1,500 samples later, as a clock that is 100 ppm off
+    could move the first one meanwhile. The other cell's first two windows have no SIB1."""
+    first = [sighting(30, i, 100) for i in range(10)]
+    return first + [sighting(30, i, 1_600, has_sib1=i >= 62, cell=512) for i in range(60, 70)]
+
+
+def test_another_cell_by_sib1_is_a_line_of_its_own():
+    lines, jumps, cells = as_one(other_cell_later())
+    assert lines == [(30, 10), (30, 10)] and jumps == []
+    assert {cell.line.sib1.cell: round(cell.seen[0].seconds, 1) for cell in cells} == {27_447_297: 0.0, 512: 10.2}
+
+
+def test_another_cell_by_sib1_does_not_hide_lost_samples():
+    step = lost(9_876, 5)
+    found = cells_of({30: lambda i: 100}, range(5)) + cells_of({92: step(7_000)}, range(70)) + other_cell_later()[10:]
+    lines, (jump,), _ = as_one(sorted(found, key=lambda one: one.seconds))
+    assert lines == [(30, 5), (30, 10), (92, 70)] and jump.samples == 9_876
+
+
 @pytest.mark.parametrize("frames, repeats", [(1, 0), (2, 2), (4, 4), (16, 16), (20, 20), (100, 100)])
 @pytest.mark.parametrize("every", [17, 5, 33])
 def test_loop_of_a_generator(frames, repeats, every):
@@ -152,6 +173,12 @@ def test_lost_samples_of_a_pipe(pipe, capsys):
     assert [(line.identity, line.windows) for line in survey.cells] == [(30, 12), (92, 12)]
     assert [gap.samples for gap in survey.gaps] == [9_876]
     assert "9,876 samples are missing between" in capsys.readouterr().out
+
+
+def test_another_cell_of_a_pipe_by_sib1(pipe):
+    found = [sighting(30, i, 100) for i in range(4)]
+    found += [sighting(30, i, 110, has_sib1=i >= 6, cell=512) for i in range(4, 12)]
+    assert sorted(cell.windows for cell in pipe(found).cells) == [4, 8]
 
 
 def test_loop_of_a_pipe(pipe):
