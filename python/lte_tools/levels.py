@@ -116,10 +116,12 @@ def step_between(before: Sequence[Power], after: Sequence[Power]) -> Step | None
 
 def begin_of_step(before: Sequence[Power], here: Power, after: Sequence[Power]) -> float:
     """Returns the second of a step: within a window whose total power is between that of those before and after, as far
-    as its noise floor fits that, else at the begin of the first window after it."""
-    old, new = (np.median([10 ** ((one.total or 0) / 10) for one in part]) for part in (before[:-1] or before, after))
-    for mixed in (before[-1], here):
-        part = float((new - 10 ** ((mixed.total or 0) / 10)) / (new - old)) if new != old else 0.0
+    as its noise floor fits that, else at the begin of the first window after it. Of the two windows next to the step, the
+    one is looked at first that leaves the other one nearer to the windows on its side."""
+    old, new = (float(np.median([one.total or 0 for one in part])) for part in (before[:-1] or before, after))
+    to_new, to_old = abs((here.total or 0) - new), abs((before[-1].total or 0) - old)
+    for mixed in (before[-1], here) if to_new <= to_old else (here, before[-1]):
+        part = part_between(old, mixed.total or 0, new)
         if MIXED < part < 1 - MIXED and fits_noise(part, mixed, before, after):
             return mixed.seconds + part * WINDOW
     return here.seconds
@@ -136,6 +138,12 @@ def fits_noise(part: float, mixed: Power, before: Sequence[Power], after: Sequen
 
 def noise_of(one: Power) -> float:
     return one.noise or 0.0
+
+
+def part_between(old: float, mixed: float, new: float) -> float:
+    """Returns which part of a window has its old power, by its power and those on either side, all in dB."""
+    first, middle, last = (10 ** (one / 10) for one in (old, mixed, new))
+    return (last - middle) / (last - first) if last != first else 0.0
 
 
 def median(powers: Sequence[Power]) -> float:

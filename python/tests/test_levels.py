@@ -95,6 +95,15 @@ def test_gain_step_within_a_window():
     assert step.decibels == 6 and step.seconds == pytest.approx(4.25 * WINDOW, abs=0.01)
 
 
+def test_gain_step_in_the_first_quarter_of_a_window():
+    """The window before the step is 0.7 dB weaker than those before it, as if an eighth of it were after the step."""
+    values = powers([-55.4] * 5 + [-61.2] + [-62.7] * 5)
+    totals = [-15.8] * 4 + [-16.3, -20.3] + [-24.0] * 5  # the sixth window: a quarter before the step, as measured
+    values = [dataclasses.replace(one, total=total) for one, total in zip(values, totals)]
+    (step,) = levels.steps_of(values, cells([-37.0] * 5 + [-44.5] * 6))
+    assert step.seconds == pytest.approx(5.24 * WINDOW, abs=0.01)
+
+
 def test_gain_step_while_a_cell_fades():
     """The step is between two windows; in the second one a cell is weaker, so that its total power is between."""
     values = powers([-70.0] * 5 + [-62.0] * 5)
