@@ -148,6 +148,8 @@ def drive_of(options: FileOptions, sources: Sequence[Source], notes: list[str]) 
     if len(sources) == 1 and sources[0].is_plain:
         return Drive(count, (), (), options.shift or 0, options.carrier)
     pieces = pieces_of(sources)
+    if not pieces:
+        raise Refused(f"{sources[0].name}: no capture begins within its {count:,} samples")
     stretches = stretches_of(options, sources[0].rate, pieces, notes)
     centre = pieces[-1].capture.centre
     carrier = options.carrier or (centre and centre + (options.shift or 0))

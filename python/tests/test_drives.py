@@ -231,6 +231,14 @@ def test_captures_that_overlap(tmp_path):
         radio_file.opened(options.FileOptions(tmp_path / "x.sigmf-meta"))
 
 
+def test_captures_beyond_the_samples(tmp_path):
+    meta = {"global": {"core:datatype": "ci16_le", "core:sample_rate": SECOND}, "captures": [{"core:sample_start": 10**15}]}
+    (tmp_path / "x.sigmf-meta").write_text(json.dumps(meta))
+    (tmp_path / "x.sigmf-data").write_bytes(bytes(4 * SECOND))
+    with pytest.raises(machine.Refused, match="x.sigmf-meta: no capture begins within its 1,920,000 samples"):
+        radio_file.opened(options.FileOptions(tmp_path / "x.sigmf-meta"))
+
+
 def test_survey_of_a_drive(tool, sent, tmp_path):
     """Two files of one cell, of which the second begins 7 s after the first one ended, are one line."""
     data = np.stack([sent.real, sent.imag], 1).astype("<i2").tobytes()
