@@ -65,6 +65,8 @@ def of_samples(options: FileOptions, path: pathlib.Path, notes: list[str]) -> So
     size, named = size_of(path), names.read(path.name)
     if wav.is_wave(path):
         return of_wave(options, path, named, notes)
+    if path.suffix.lower() == ".wav" and options.form is None:
+        raise Refused(f"{path}: no header of WAV in it; --form names the numbers of samples without one")
     form = options.form or SUFFIXES.get(path.suffix[1:]) or named.form or "s16"
     count = whole_samples(path, size, form, notes)
     rate = whole(options.rate or named.rate or radio.RATE)

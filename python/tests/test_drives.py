@@ -101,6 +101,7 @@ REFUSED = {
     "rate": (wave(bytes(400), rate=0), "0 samples per second"),
     "empty": (wave(b""), "no sample in it"),
     "cut": (wave(bytes(400))[:30], "without a chunk 'fmt'"),
+    "no header": (b"\x89PNG\r\n\x1a\n" + bytes(400_000), "no header of WAV in it; --form"),
     "chunks": (wave(bytes(400))[:12] + b"junk\0\0\0\0" * 2_000, "more than 1,000 chunks"),
 }
 
@@ -112,6 +113,11 @@ def test_wave_that_is_refused(tmp_path, name):
     with pytest.raises(machine.Refused, match="^[^\n]*$") as refused:
         radio_file.opened(options.FileOptions(tmp_path / "x.wav"))
     assert text in str(refused.value) and "x.wav" in str(refused.value)
+
+
+def test_samples_without_a_header_are_read_by_form(tmp_path):
+    (tmp_path / "x.wav").write_bytes(np.arange(200_000, dtype="<i2").tobytes())
+    assert radio_file.opened(options.FileOptions(tmp_path / "x.wav", form="s16")).count == 100_000
 
 
 @pytest.mark.parametrize("is_by_header", [True, False])
