@@ -8,6 +8,7 @@ one by its physical-layer identity alone.
 """
 from __future__ import annotations
 
+import codecs
 import csv
 import dataclasses
 import io
@@ -27,21 +28,28 @@ from .survey_data import Survey
 
 MOST_BYTES = 64_000_000
 MOST_CELLS = 500_000
+UTF_16 = (codecs.BOM_UTF16_LE, codecs.BOM_UTF16_BE)  # as spreadsheets write text with tabs
 # other names of columns, without the spaces, hyphens and underscores in them
 NAMES = {
     "pci": "identity",
+    "physicalcellid": "identity",
+    "physicalcellidentity": "identity",
     "latitude": "lat",
     "longitude": "lon",
     "long": "lon",
     "site": "name",
     "sitename": "name",
+    "cellname": "name",
     "eci": "cell",
     "enb": "enodeb",
     "enbid": "enodeb",
     "enodebid": "enodeb",
     "sectorid": "sector",
+    "localcellid": "sector",
+    "trackingareacode": "tac",
     "earfcndl": "earfcn",
     "dlearfcn": "earfcn",
+    "downlinkearfcn": "earfcn",
 }
 RANGES = {"identity": 503, "cell": 2**28 - 1, "enodeb": 2**20 - 1, "sector": 255, "tac": 65_535, "earfcn": 262_143}
 # words of a finding, the gravest first, and what they mean
@@ -79,7 +87,8 @@ class BadLine(Exception):
 
 def read(path: pathlib.Path) -> list[Planned]:
     """Returns the cells of a plan; refuses a file that is none."""
-    text = foreign.read(path, MOST_BYTES).decode("utf-8-sig", errors="replace")
+    data = foreign.read(path, MOST_BYTES)
+    text = data.decode("utf-16" if data.startswith(UTF_16) else "utf-8-sig", errors="replace")
     head = text.partition("\n")[0]
     delimiter = next((one for one in ";\t" if one in head and "," not in head), ",")
     rows = csv.reader(io.StringIO(text, newline=""), delimiter=delimiter)

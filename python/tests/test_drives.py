@@ -238,7 +238,10 @@ def test_captures_that_overlap(tmp_path):
 
 
 def test_captures_beyond_the_samples(tmp_path):
-    meta = {"global": {"core:datatype": "ci16_le", "core:sample_rate": SECOND}, "captures": [{"core:sample_start": 10**15}]}
+    meta = {
+        "global": {"core:datatype": "ci16_le", "core:sample_rate": SECOND},
+        "captures": [{"core:sample_start": 10**15}],
+    }
     (tmp_path / "x.sigmf-meta").write_text(json.dumps(meta))
     (tmp_path / "x.sigmf-data").write_bytes(bytes(4 * SECOND))
     with pytest.raises(machine.Refused, match="x.sigmf-meta: no capture begins within its 1,920,000 samples"):

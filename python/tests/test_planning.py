@@ -401,6 +401,13 @@ def test_plan(made, tmp_path):
     assert (found[1].planned_tac, found[1].tac, found[1].windows) == (4712, 4711, 3)
 
 
+def test_plan_as_programs_of_networks_export_it(tmp_path):
+    head = "Cell Name\tPhysical cell ID\teNodeB ID\tLocal Cell ID\tTracking area code\tDownlink EARFCN\n"
+    (tmp_path / "plan.txt").write_text(head + "A\t63\t70001\t1\t4711\t6200\n", encoding="utf-16")
+    (one,) = plan.read(tmp_path / "plan.txt")
+    assert one == plan.Planned(2, "A", 63, CELLS[63], 4711, None, 796e6, None)
+
+
 def test_plan_by_identity_alone(made, tmp_path):
     found = findings(without_sib1(made(), 33), "pci;lat;lon\n33;52;13\n33;40;13\n63;;\n65;;\n", tmp_path)
     words = [(one.finding, one.planned_identity, one.identity) for one in found]
