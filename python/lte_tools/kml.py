@@ -30,8 +30,8 @@ def of_survey(survey: Survey) -> bytes:
     """Returns the KML of a survey."""
     windows = survey_windows.windows_of(survey)
     parts = [HEAD, f"<name>{text(survey.file)}</name>\n", *styles(), *way_of(windows, survey)]
-    for number, cell in enumerate(survey.cells):
-        parts += folder_of(number, cell, survey, windows)
+    for number in range(len(survey.cells)):
+        parts += folder_of(number, survey, windows)
     for number, line in enumerate(survey.identities or (), len(survey.cells)):
         parts += folder_of_identity(number, line, survey, windows)
     holes = [window for window in windows if window.place and not window.sure]
@@ -66,9 +66,17 @@ def coordinates(place: tuple[float, float]) -> str:
     return f"{place[0]:.7f},{place[1]:.7f}"
 
 
-def folder_of(number: int, cell: SurveyCell, survey: Survey, windows: Sequence[Window]) -> list[str]:
+def name_of(cell: SurveyCell, survey: Survey) -> str:
+    """Returns the name of a cell's folder, with eNodeB and number of the cell if other lines have its identity."""
+    is_alone = [one.identity for one in survey.cells].count(cell.identity) == 1
+    number = "" if is_alone or not cell.sib1 else f" ({cell.sib1.enodeb}, {cell.sib1.sector})"
+    return f"PCI {cell.identity}{'?' * cell.chance}{number}"
+
+
+def folder_of(number: int, survey: Survey, windows: Sequence[Window]) -> list[str]:
     """Returns a cell's folder: where it was strongest, and its windows."""
-    name = f"PCI {cell.identity}{'?' * cell.chance}"
+    cell = survey.cells[number]
+    name = name_of(cell, survey)
     style = f"cell{number % len(COLOURS)}"
     shared = places.properties_of(cell, survey)
     parts = [f"<Folder><name>{text(name)}</name>\n"]

@@ -253,6 +253,13 @@ def test_kml_has_the_order_of_the_schema(kml_root):
     assert {one.tag.partition("}")[0] for one in kml_root.iter()} == {"{http://www.opengis.net/kml/2.2"}
 
 
+def test_kml_names_cells_of_one_identity(made):
+    survey = made()
+    twice = dataclasses.replace(survey.cells[2], identity=63)
+    text = kml.of_survey(dataclasses.replace(survey, cells=(*survey.cells[:2], twice))).decode()
+    assert re.findall("<Folder><name>(PCI.*?)</name>", text) == ["PCI 63 (70001, 1)", "PCI 33", "PCI 63 (70055, 1)"]
+
+
 def test_kml_has_valid_values(kml_root):
     texts = {}
     for one in kml_root.iter():
