@@ -29,6 +29,7 @@ SMALL, GREAT = 9, 110  # square points of marks
 LOW, HIGH = 3.4, 6.2  # inches of a map's height
 MAP, TABLE = (0.85, 6.1), (7.3, 4.55)  # inches from the left, and of width
 HEAD, FOOT, NOTES = 0.75, 0.95, 0.5  # inches above and below the map, and below the table
+ROOM = 1  # inches from a corner, within which no place is where an arrow is drawn
 ALONE = 7.2  # inches of a map without a table
 FEW = 9  # cells whose table is beside the map; that of more is below it, a line for each
 BROAD, COLUMNS, LINE = 10.9, 3, 0.175  # inches of a map's width above its table, columns of that, and inches of a line
@@ -109,7 +110,7 @@ class Frame:
     def __init__(
         self, ground: Ground, spots: Sequence[tuple[float, float]], width: float, highest: float = HIGH
     ) -> None:
-        self.ground = ground
+        self.ground, self.places = ground, list(spots)
         east, north = (np.array(values) for values in zip(*spots))
         wide, tall = (MARGIN * max(float(np.ptp(values)), LEAST / MARGIN) for values in (east, north))
         self.width, self.height = width, min(highest, max(LOW, width * tall / wide))
@@ -119,6 +120,17 @@ class Frame:
     def limits(self) -> tuple[tuple[float, float], tuple[float, float]]:
         wide, tall = self.metres * self.width / 2, self.metres * self.height / 2
         return (-wide, wide), (-tall, tall)
+
+    @property
+    def free_corner(self) -> tuple[int, int]:
+        """The first of three corners with room, above on the right, above on the left, and below on the right, or the one
+        with the most: 1 or -1 to the east, and to the north."""
+        (_, right), (_, high) = self.limits
+        corners = ((1, 1), (-1, 1), (1, -1))
+        room = [min(math.dist(place, (x * right, y * high)) for place in self.places) for x, y in corners]
+        return next(
+            (one for one, metres in zip(corners, room) if metres > ROOM * self.metres), corners[np.argmax(room)]
+        )
 
     @property
     def near(self) -> float:
@@ -244,7 +256,7 @@ def metres_text(metres: float) -> str:
 
 
 def draw_scale(ax: Any, drawn: Frame) -> None:
-    """Draws a bar of metres below on the left, and an arrow to the north above on the right."""
+    """Draws a bar of metres below on the left, and an arrow to the north in another corner, where there is room."""
     length = round_below(drawn.metres * drawn.width / 4)
     (left, right), (low, high) = drawn.limits
     inch = drawn.metres
@@ -253,7 +265,8 @@ def draw_scale(ax: Any, drawn: Frame) -> None:
     ax.plot([x, x, x, x + length, x + length, x + length], [y + tick, y - tick, y, y, y - tick, y + tick], "k-", lw=1.2)
     keys = {"ha": "center", "path_effects": HALO, "zorder": 6}
     ax.text(x + length / 2, y + 0.06 * inch, metres_text(length), fontsize=8, va="bottom", **keys)
-    x, y = right - 0.25 * inch, high - 0.2 * inch
+    east, north = drawn.free_corner
+    x, y = east * (right - 0.25 * inch), high - 0.2 * inch if north > 0 else low + 0.8 * inch
     arrow = {"arrowstyle": "-|>", "color": "black", "lw": 1.2, "shrinkA": 0, "shrinkB": 0}
     ax.annotate("", (x, y), (x, y - 0.45 * inch), arrowprops=arrow, zorder=6)
     ax.text(x, y - 0.5 * inch, "N", fontsize=9, va="top", fontweight="bold", **keys)

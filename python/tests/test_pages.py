@@ -220,6 +220,20 @@ def test_map_has_the_strongest_cells(walk):
     assert (right - left) / drawn.width == pytest.approx((high - low) / drawn.height)
 
 
+@pytest.mark.parametrize(
+    "east, north, corner",
+    [
+        ([0, 1, 2], [1, 0.5, 0], (1, 1)),
+        ([0, 1, 2], [0, 0.5, 1], (-1, 1)),
+        ([0, 0, 2], [0, 1, 1], (1, -1)),
+    ],
+)
+def test_north_is_drawn_where_no_place_is(survey, east, north, corner):
+    """The way is two straight lines, in thousandths of a degree."""
+    lon, lat = (np.interp(np.arange(12), [0, 5, 11], values) / 1000 for values in (east, north))
+    assert picture_map.Map(survey_of_places(survey, list(zip(lon, lat))), 6).free_corner == corner
+
+
 def test_scale_and_map_of_one_place(survey):
     assert [picture_map.round_below(metres) for metres in (999, 1000, 4, 0.7, 74)] == [500, 1000, 2, 0.5, 50]
     still = picture_map.Map(survey_of_places(survey, [[13.4, 52.5]] * 12), 6)
