@@ -99,10 +99,12 @@ def write(path: pathlib.Path, data: bytes) -> None:
 
 
 def program(name: str) -> str:
-    """Returns the path of a program: LTE_CLI or LTE_TUNE, else next to this tool, else built in this clone, else PATH."""
+    """Returns the path of a program: LTE_CLI or LTE_TUNE, else next to this tool, else built in this clone, else installed
+    with this package, else PATH."""
     named = os.environ.get(name.upper())
     beside = pathlib.Path(sys.argv[0]).resolve().parent / name
-    for place in [named] if named else [str(beside), str(TOP / "crates" / name / "out" / name), name]:
+    built, installed = TOP / "crates" / name / "out" / name, TOP.parent / "bin" / name
+    for place in [named] if named else [str(beside), str(built), str(installed), name]:
         if found := shutil.which(place):
             return os.path.abspath(found)
     if named:

@@ -173,6 +173,10 @@ def test_programs_are_found(monkeypatch, programs, tmp_path):
     monkeypatch.setenv("PATH", "/nowhere")
     with pytest.raises(machine.Refused, match="rt run"):
         machine.program("lte_cli")
+    (tmp_path / "bin").mkdir()
+    (tmp_path / "bin/lte_cli").symlink_to(programs / "lte_cli")
+    monkeypatch.setattr(machine, "TOP", tmp_path / "lib")
+    assert machine.program("lte_cli") == str(tmp_path / "bin/lte_cli")
 
 
 def test_importing_has_no_effect():
