@@ -60,7 +60,7 @@ def parts_text(parts: Sequence[Part]) -> str:
     count = len({one.file for one in parts})
     text = f"{count} files in the order of time" if count > 1 else f"{len(parts)} captures"
     gaps = [
-        f"{one.missing:,.{2 if one.missing < 10 else 0}f} s in front of second {one.first:.2f}"
+        f"{one.missing:,.{2 if one.missing < 10 else 1}f} s in front of second {one.first:.2f}"
         for one in parts
         if one.missing
     ]
@@ -89,7 +89,7 @@ def steps_text(steps: Sequence[Step]) -> str:
 
 def head_of(survey: Survey) -> str:
     """Returns the line on the file."""
-    further = len({one.file for one in survey.parts} - {survey.file})
+    further = max(len({one.file for one in survey.parts}) - 1, 0)
     files = f" and {further} further file{'s' * (further > 1)}" if further else ""
     parts = [f"{survey.file}{files}: {survey.seconds:.2f} s", windows_text(survey.windows)]
     if survey.datetime:

@@ -248,6 +248,14 @@ def test_captures_beyond_the_samples(tmp_path):
         radio_file.opened(options.FileOptions(tmp_path / "x.sigmf-meta"))
 
 
+def test_captures_of_one_file_are_no_further_files(survey_json):
+    parts = (survey_data.Part("/x.sigmf-data", 0, 3, None, 0), survey_data.Part("/x.sigmf-data", 3, 3, None, 10.5))
+    survey = survey_data.Survey.from_json(survey_json)
+    found = dataclasses.replace(survey, file="x.sigmf-meta", parts=parts)
+    assert survey_table.head_of(found).startswith("x.sigmf-meta: ")
+    assert survey_table.parts_text(parts) == "2 captures, missing between them: 10.5 s in front of second 3.00"
+
+
 def test_survey_of_a_drive(tool, sent, tmp_path):
     """Two files of one cell, of which the second begins 7 s after the first one ended, are one line."""
     data = np.stack([sent.real, sent.imag], 1).astype("<i2").tobytes()
@@ -323,6 +331,7 @@ def test_survey_of_36_files(pieces, is_sigmf):
     exact = [round(b - a - PIECE / SECOND, 3) for a, b in zip(TIMES, TIMES[1:])]
     whole = [round(int(b) - int(a) - PIECE / SECOND, 3) for a, b in zip(TIMES, TIMES[1:])]
     assert [one.missing for one in found.parts[1:]] == pytest.approx(exact if is_sigmf else whole, abs=0.002)
+    assert "and 35 further files: " in survey_table.head_of(found)
     text = survey_table.parts_text(found.parts)
     assert text.startswith("36 files in the order of time, missing between them: ") and text.endswith(
         " 31 further gaps"
