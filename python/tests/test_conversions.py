@@ -2,8 +2,10 @@
 import json
 import os
 import resource
+import shutil
 import signal
 import struct
+import subprocess
 
 import numpy as np
 import pytest
@@ -177,6 +179,18 @@ def test_programs_are_found(monkeypatch, programs, tmp_path):
     (tmp_path / "bin/lte_cli").symlink_to(programs / "lte_cli")
     monkeypatch.setattr(machine, "TOP", tmp_path / "lib")
     assert machine.program("lte_cli") == str(tmp_path / "bin/lte_cli")
+
+
+def test_many_files_with_programs_in_path(programs, tmp_path):
+    """A clone in which nothing was built, and an installation."""
+    (tmp_path / "scripts/tools").mkdir(parents=True)
+    (tmp_path / "python").symlink_to(TOP / "python")
+    shutil.copy(TOP / "scripts/tools/many.sh", tmp_path / "scripts/tools")
+    (tmp_path / "empty.cu8").write_bytes(b"")
+    words, paths = ["scripts/tools/many.sh", "empty.cu8"], {False: "/usr/bin:/bin", True: f"{programs}:/usr/bin:/bin"}
+    for has_programs, path in paths.items():
+        done = subprocess.run(words, cwd=tmp_path, capture_output=True, text=True, check=False, env={"PATH": path})
+        assert done.returncode == 1 and ("empty.cu8: empty" in done.stderr) == has_programs
 
 
 def test_importing_has_no_effect():

@@ -7,13 +7,17 @@
 # causes stand on standard error. MACHINES lists the machines as GNU parallel's --sshlogin takes them, with `:` for this
 # one (MACHINES=:,radio1,8/radio2); programs, scripts and files are carried there by ssh and rsync, and taken away
 # again: name the files from the folder that you are in. LTE_CLI and LTE_TUNE name the programs, else they are those
-# built here.
+# built here, or those in PATH.
 # Debian: python3-numpy, python3-scipy, with MACHINES parallel and rsync.
 set -eu
 top=$(cd "$(dirname "$0")/../.." && pwd)
 python=$top/python
-cli=$(realpath -m "${LTE_CLI:-$top/crates/lte_cli/out/lte_cli}")
-tune=$(realpath -m "${LTE_TUNE:-$top/crates/lte_tune/out/lte_tune}")
+program() { # program NAME: the path of a program that is built here, or that is in PATH
+    local built=$top/crates/$1/out/$1
+    if [ -x "$built" ]; then echo "$built"; else command -v "$1" || echo "$built"; fi
+}
+cli=$(realpath -m "${LTE_CLI:-$(program lte_cli)}")
+tune=$(realpath -m "${LTE_TUNE:-$(program lte_tune)}")
 for program in "$cli" "$tune"; do
     [ -x "$program" ] || { echo "many.sh: no program at $program" >&2; exit 1; }
 done
