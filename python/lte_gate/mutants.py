@@ -97,7 +97,7 @@ def is_own_failure(line, function):
     names = names[1:] if names[:1] == [crate] else names
     if function.name not in names:
         return False
-    before = names[: names.index(function.name)]
+    before = names[: len(names) - 1 - names[::-1].index(function.name)]  # a function may have its module's name
     return (
         bool(before) and before[-1].startswith(function.owner) if function.owner else before == module_of(function.path)
     )

@@ -89,3 +89,5 @@ def test_lines_of_a_check_belong_to_functions():
     free = mutants.Place("src/a/b.rt", "", "first", 1, 2)
     assert mutants.is_own_failure("fn low::a::b::first: not proved", free)
     assert not mutants.is_own_failure("fn low::a::c::first: not proved", free)
+    named = mutants.Place("src/line.rt", None, "line", 1, 2)
+    assert mutants.is_own_failure("fn low::line::line: not proved", named)
