@@ -20,11 +20,11 @@ LOUD = 20  # in the units of 16 bits
 PLAIN = json.loads((EXAMPLES / "usual_cell.json").read_text())
 
 
-def cell(identity, seconds=1.0, start=0, sfn=0, level=0.0):
-    """A cell whose first frame begins `start` samples before the recording, at a level in dB."""
+def cell(identity, seconds=1.0, start=0, sfn=0, level=0.0, load=None):
+    """A cell whose first frame begins `start` samples before the recording, at a level in dB; `load` is that of transmit."""
     more = {"identity": identity, "sfn": sfn, "offset": start, "samples": round(seconds * radio.RATE)}
     sib1 = {**PLAIN["sib1"], "cell": 256 * identity}
-    sent = lte_tools.transmit({**PLAIN, **more, "gain": [GAIN, 0], "sib1": sib1}).samples
+    sent = lte_tools.transmit({**PLAIN, **more, "gain": [GAIN, 0], "sib1": sib1}, load=load).samples
     return sent / GAIN * 10 ** (level / 20)
 
 
@@ -82,6 +82,18 @@ def test_loop(survey, frames, repeats, text):
     found = survey(with_noise(np.tile(x, 100 // frames + 1)[: radio.RATE]))
     assert lines_of(found) == [(123, 6)] and found.cells[0].repeats == pytest.approx(repeats)
     assert any(text in line for line in survey_table.table_of(found))
+
+
+# ---- cells far below the strongest one
+
+
+def test_cell_of_which_the_identity_alone_is_detected(survey):
+    x = with_noise(cell(30, 0.5, load=1) + cell(92, 0.5, start=3_000, sfn=300, level=-12, load=2), 30)
+    found = survey(x, deep=True)
+    assert lines_of(found) == [(30, 3)]
+    (line,) = found.identities
+    assert (line.identity, line.windows) == (92, 3) and line.below == pytest.approx(12, abs=1)
+    assert lines_of(survey(x)) == [(30, 3)] and survey(x).identities is None
 
 
 # ---- doubts
@@ -206,7 +218,9 @@ def test_carrier_next_to_the_centre(tool, tmp_path):
 def test_cell_that_is_too_loud_to_be_cancelled(survey):
     x = with_noise(cell(30, 0.2), 35)
     assert survey(x, loud=25).hint is None
-    assert "if PCI 30 hides a weaker cell: divide the samples by 2, since" in survey(x, loud=40).hint
+    assert "if PCI 30 hides a weaker cell: --deep detects its identity; for its MIB divide the samples by 2, since" in (
+        survey(x, loud=40).hint
+    )
     seconds = np.arange(len(x)) / radio.RATE
     hint = survey(x * np.exp(400j * np.pi * seconds), loud=20).hint
-    assert "hides a weaker cell: correct the offset of +" in hint and "divide" not in hint
+    assert "for its MIB correct the offset of +" in hint and "divide" not in hint
