@@ -8,6 +8,7 @@ Debian: python3-numpy, python3-scipy. Needs lte_cli.
 """
 from __future__ import annotations
 
+import bisect
 import dataclasses
 from dataclasses import dataclass
 from typing import Iterable, NamedTuple, Sequence
@@ -16,7 +17,7 @@ from . import programs, radio
 from .answers import DetectedCell
 from .cells import CLOCK, SeenCell
 from .continuity import SLACK, Jump, drift_of
-from .sightings import NEAR, Task, Window, distance
+from .sightings import NEAR, Sighting, Task, Window, distance
 
 LEAST = 2  # windows that make a cell: by coincidence a recording in 1,400 has a detection
 ECHO = 137  # samples at most from a listed cell's frame to that of another of its paths, as `ids --deep` has it
@@ -91,38 +92,48 @@ def clock_of(cells: Sequence[SeenCell]) -> Clock:
     return Clock(0.0, CLOCK * radio.RATE) if drift is None else Clock(drift, LEFT * radio.RATE)
 
 
+class ListedCell:
+    """A listed cell, and its sightings in the order of time and by their windows."""
+
+    def __init__(self, cell: SeenCell) -> None:
+        self.cell, self.identity = cell, cell.line.identity
+        self.seen = sorted(cell.seen, key=lambda one: one.seconds)
+        self.seconds = [one.seconds for one in self.seen]
+        self.by_start: dict[float, list[Sighting]] = {}
+        for one in self.seen:
+            self.by_start.setdefault(one.task.start, []).append(one)
+
+    def is_listed_with(self, one: DeepSighting) -> bool:
+        """Returns whether a detection's window lists the cell at this place, or another path of it."""
+        here = self.by_start.get(one.task.start, ())
+        return any(round(distance(other.epoch, one.place, radio.FRAME)) <= ECHO for other in here)
+
+    def has(self, one: DeepSighting, clock: Clock) -> bool:
+        """Returns whether a detection is of this cell, by its place in the nearest window that lists the cell."""
+        later = bisect.bisect(self.seconds, one.seconds)
+        near = self.seen[max(later - 1, 0) : later + 1]
+        nearest = min(near, key=lambda other: abs(other.seconds - one.seconds))
+        return clock.agrees(nearest.epoch, one.place, one.seconds - nearest.seconds)
+
+
 def joined(found: Iterable[DeepSighting], cells: Sequence[SeenCell], jumps: Sequence[Jump]) -> list[SeenIdentity]:
     """Gives each listed cell its detections in windows that do not list it, and returns the cells that no list has, those
     in most windows first. `found` is in the order of time; at each jump samples are missing."""
     clock, lines = clock_of(cells), list[SeenIdentity]()
-    listed = [cell for cell in cells if not cell.is_chance(cells)]
+    listed: dict[int, list[ListedCell]] = {}
+    for cell in (ListedCell(cell) for cell in cells if not cell.is_chance(cells)):
+        listed.setdefault(cell.identity, []).append(cell)
     for one in found:
         one = dataclasses.replace(one, missing=sum(jump.samples for jump in jumps if one.seconds > jump.seconds))
-        if any(is_listed(cell, one) for cell in listed):
+        alike = listed.get(one.cell.identity, ())
+        if any(cell.is_listed_with(one) for cell in alike):
             continue
-        if cell := next((cell for cell in listed if is_of(cell, one, clock)), None):
-            cell.detected.append(one)
+        if own := next((cell for cell in alike if cell.has(one, clock)), None):
+            own.cell.detected.append(one)
         else:
             add(lines, one, clock)
-    return sorted(
-        (line for line in lines if line.windows >= LEAST), key=lambda line: (-line.windows, line.seen[0].seconds)
-    )
-
-
-def is_listed(cell: SeenCell, one: DeepSighting) -> bool:
-    """Returns whether a detection's window lists its cell, or another path of it."""
-    return cell.line.identity == one.cell.identity and any(
-        other.task.start == one.task.start and round(distance(other.epoch, one.place, radio.FRAME)) <= ECHO
-        for other in cell.seen
-    )
-
-
-def is_of(cell: SeenCell, one: DeepSighting, clock: Clock) -> bool:
-    """Returns whether a detection is of a listed cell, by its place in the nearest window that lists the cell."""
-    if cell.line.identity != one.cell.identity:
-        return False
-    nearest = min(cell.seen, key=lambda other: abs(other.seconds - one.seconds))
-    return clock.agrees(nearest.epoch, one.place, one.seconds - nearest.seconds)
+    kept = (line for line in lines if line.windows >= LEAST)
+    return sorted(kept, key=lambda line: (-line.windows, line.seen[0].seconds))
 
 
 def add(lines: list[SeenIdentity], one: DeepSighting, clock: Clock) -> None:
