@@ -49,6 +49,14 @@ class DeepSighting:
         """The level without the radio's gain, or None."""
         return None if self.level is None else self.level - self.gain
 
+    def is_at(self, other: Sighting) -> bool:
+        """Returns whether a sighting in the same window is at its place, or on another path."""
+        return round(distance(other.epoch, self.place, radio.FRAME)) <= ECHO
+
+    def bare(self) -> DeepSighting:
+        """Returns the detection without the samples that its task may hold."""
+        return dataclasses.replace(self, task=self.task.bare())
+
 
 @dataclass
 class SeenIdentity:
@@ -69,6 +77,15 @@ def detected_in(task: Task, window: Window) -> tuple[DeepSighting, ...]:
     """Returns the cells that are detected over the half-frames of a window."""
     found = programs.deep_of(window.recording).cells
     return tuple(DeepSighting(task, one, radio.level(one.power, 0, window.full)) for one in found)
+
+
+def unlisted(found: Sequence[DeepSighting], listed: Sequence[Sighting]) -> list[DeepSighting]:
+    """Returns a window's detections of cells that the window does not list, on no path."""
+    return [
+        one
+        for one in found
+        if not any(one.cell.identity == other.line.identity and one.is_at(other) for other in listed)
+    ]
 
 
 # ---- windows
@@ -105,8 +122,7 @@ class ListedCell:
 
     def is_listed_with(self, one: DeepSighting) -> bool:
         """Returns whether a detection's window lists the cell at this place, or another path of it."""
-        here = self.by_start.get(one.task.start, ())
-        return any(round(distance(other.epoch, one.place, radio.FRAME)) <= ECHO for other in here)
+        return any(map(one.is_at, self.by_start.get(one.task.start, ())))
 
     def has(self, one: DeepSighting, clock: Clock) -> bool:
         """Returns whether a detection is of this cell, by its place in the nearest window that lists the cell."""

@@ -61,9 +61,14 @@ def looked_at(task: Task, is_deep: bool = False) -> InWindow:
         samples = samples_of(task)
     except Spoiled:
         return InWindow(None, None)
+    return cells_in(task, samples, is_deep)._replace(power=power_of(task, samples))
+
+
+def cells_in(task: Task, samples: radio.Complex, is_deep: bool) -> InWindow:
+    """Returns the cells in a window with these samples."""
     window, lines = settled(window_of(task, samples))
     detected = detected_in(task, window) if is_deep else ()
-    return InWindow(sightings_of(task, samples, window, lines), power_of(task, samples), detected)
+    return InWindow(sightings_of(task, samples, window, lines), None, detected)
 
 
 def rounded(power: float) -> float | None:

@@ -21,18 +21,31 @@ import stat
 import sys
 import time
 from types import FrameType
-from typing import Any, Callable
+from typing import Any, Callable, NamedTuple
 
 import numpy as np
 
-from . import gpsd, hints, levels, places, radio, radio_file, sources, stream, survey_data, survey_table, wide
+from . import (
+    gpsd,
+    hints,
+    identities,
+    levels,
+    places,
+    radio,
+    radio_file,
+    sources,
+    stream,
+    survey_data,
+    survey_table,
+    wide,
+)
 from .cells import SeenCell, add_sighting, in_windows_order
 from .continuity import Jump, as_one
 from .forms import FORMS, fault_of
 from .machine import Refused, note
 from .options import Gain, SurveyOptions
 from .radio_file import RadioFile, Spoiled
-from .sightings import VAGUE, WINDOW, Sighting, Task, offset_in, samples_of, saying, sightings_in
+from .sightings import VAGUE, WINDOW, Sighting, Task, offset_in, samples_of, saying
 from .summary import Looked, survey_of_cells
 from .survey_data import Power, Survey
 from .track import Track
@@ -63,17 +76,30 @@ def opened(options: SurveyOptions) -> RadioFile:
 # ---- one window, in a process of its own
 
 
-def look(task: Task, is_known: bool, informed: frozenset[int]) -> tuple[list[Sighting] | None, Power | None]:
-    """Returns the cells of a window without its samples, and its power; None where these are not numbers. SIB1 is asked at
-    the bandwidth of cells whose identities are not in `informed`."""
+class Known(NamedTuple):
+    """What is known for a window: whether its offset is, the identities whose SIB1 is not asked again, and whether cells
+    that no list has are asked for."""
+
+    has_offset: bool
+    informed: frozenset[int] = frozenset()
+    is_deep: bool = False
+
+
+def look(task: Task, known: Known) -> levels.InWindow:
+    """Returns what is in a window, without its samples. SIB1 is asked at the bandwidth of cells that have none yet."""
     try:
         samples = samples_of(task)
     except Spoiled:
-        return None, None
-    offset = task.offset if is_known else offset_in(task, samples)
-    found = [] if offset is None else sightings_in(task.with_offset(offset), samples)
-    more = [one if one.line.identity in informed else wide.informed(one) for one in found]
-    return [one.bare() for one in more], levels.power_of(task, samples)
+        return levels.InWindow(None, None)
+    offset = task.offset if known.has_offset else offset_in(task, samples)
+    found = (
+        levels.InWindow([], None)
+        if offset is None
+        else levels.cells_in(task.with_offset(offset), samples, known.is_deep)
+    )
+    more = [one if one.line.identity in known.informed else wide.informed(one) for one in found.listed or ()]
+    listed, detected = [one.bare() for one in more], identities.unlisted(found.detected, more)
+    return levels.InWindow(listed, levels.power_of(task, samples), tuple(one.bare() for one in detected))
 
 
 def begin_process() -> None:
@@ -145,6 +171,7 @@ class Live:
         self.windows, self.skipped, self.forgotten, self.behind = 0, 0, 0, 0.0
         self.jumps: list[Jump] = []
         self.powers: collections.deque[Power] = collections.deque(maxlen=MOST_POWERS)
+        self.detected: collections.deque[identities.DeepSighting] = collections.deque(maxlen=MOST_POWERS)
         self.starts: collections.deque[float] = collections.deque(maxlen=MOST_POWERS)
         self.pauses = 0  # that were reported
         self.empty: Task | None = None  # the last window that lists nothing
@@ -162,8 +189,14 @@ class Live:
         file = dataclasses.replace(self.file, held=window.data, begins=-width * first, count=first + count)
         return Task(file, window.first / file.rate, count / file.rate, self.offset)
 
-    def add(self, start: float, came: float, found: list[Sighting] | None, power: Power | None = None) -> None:
+    @property
+    def known(self) -> Known:
+        """What is known for the next window."""
+        return Known(self.is_known, self.informed, self.options.deep)
+
+    def add(self, start: float, came: float, window: levels.InWindow) -> None:
         """Adds what was found in a window that begins at second `start` and came at time `came`."""
+        found = window.listed
         behind = time.monotonic() - came
         self.windows, self.behind = self.windows + 1, max(self.behind, behind)
         self.starts.append(start)
@@ -172,8 +205,9 @@ class Live:
         if found is None:
             self.spoiled = [*self.spoiled, round(start, 6)][-KEPT:]
             return
-        if power is not None:
-            self.powers.append(power)
+        if window.power is not None:
+            self.powers.append(window.power)
+        self.detected += window.detected
         missing, count, sure = sum(jump.samples for jump in self.jumps), len(self.cells), []
         for one in found:
             cell = add_sighting(self.cells, one.later(missing), LiveCell)
@@ -237,10 +271,13 @@ class Live:
     def survey(self) -> Survey:
         """Returns the survey."""
         count, cells = self.ring.size // width_of(self.file), in_windows_order(self.cells)
-        powers, steps = levels.even(cells, list(self.powers), self.options.gain, levels.rounding_of(self.file))
+        others = identities.joined(self.detected, cells, self.jumps)
+        rounding = levels.rounding_of(self.file)
+        powers, steps = levels.even(cells, list(self.powers), self.options.gain, rounding, others)
         hint = self.hint(cells) if all(cell.is_chance(cells) for cell in cells) else None
         file = begun(self, count)
-        looked = Looked(self.windows, self.spoiled, self.offsets, self.jumps, powers, steps)
+        asked = others if self.options.deep else None
+        looked = Looked(self.windows, self.spoiled, self.offsets, self.jumps, powers, steps, asked)
         found = survey_of_cells(self.options, file, cells, looked, hint)
         ended = survey_data.Live(self.ring.skipped, self.forgotten, round(self.behind, 2))
         return dataclasses.replace(found, live=ended)
@@ -371,14 +408,14 @@ def look_at_all(live: Live, pool: Any, jobs: int) -> None:
             last = last or time.monotonic() + ENDING
         while len(asked) < jobs and (window := ring.take()):
             check_form(live, window)
-            answer = pool.apply_async(look, (live.task(window), live.is_known, live.informed), callback=ring.wake)
+            answer = pool.apply_async(look, (live.task(window), live.known), callback=ring.wake)
             asked.append((window, answer))
         if asked and asked[0][1].ready():
             window, answer = asked.popleft()
-            found, power = answer.get()
-            if found == []:
+            found = answer.get()
+            if found.listed == []:
                 live.empty = live.task(window)
-            live.add(window.first / live.file.rate, window.came, found, power)
+            live.add(window.first / live.file.rate, window.came, found)
         elif last is not None and time.monotonic() > last:
             ring.skipped += len(asked)
             return

@@ -261,9 +261,8 @@ def check_input(options: SurveyOptions) -> None:
     if options.deep and options.scan:
         raise Refused("--deep and --scan: one of them")
     if options.is_input:
-        for name in ("scan", "deep"):
-            if getattr(options, name):
-                raise Refused(f"-: --{name} needs a file")
+        if options.scan:
+            raise Refused("-: --scan needs a file")
         if options.wait and options.has_places and options.start is None:
             raise Refused("-: with --wait the samples come later than they were received: --start says when that was")
     elif options.follow or options.wait:

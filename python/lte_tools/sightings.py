@@ -48,6 +48,10 @@ class Task:
         """Returns the second of the file at a sample of the window's recording."""
         return self.first / self.file.rate + sample / radio.RATE
 
+    def bare(self) -> Task:
+        """Returns the window without the samples that it may hold."""
+        return dataclasses.replace(self, file=dataclasses.replace(self.file, held=None))
+
     def with_offset(self, offset: float) -> Task:
         return dataclasses.replace(self, offset=offset)
 
@@ -331,8 +335,7 @@ class Sighting:
 
     def bare(self) -> Sighting:
         """Returns the sighting without the samples that its task may hold."""
-        file = dataclasses.replace(self.task.file, held=None)
-        return dataclasses.replace(self, task=dataclasses.replace(self.task, file=file))
+        return dataclasses.replace(self, task=self.task.bare())
 
 
 def sightings(task: Task) -> list[Sighting] | None:

@@ -12,7 +12,7 @@ import pytest
 from scipy.signal import resample_poly
 
 import lte_tools
-from lte_tools import check_certificate, live, machine, picture_style, radio, stream, to_ci16
+from lte_tools import check_certificate, levels, live, machine, picture_style, radio, stream, to_ci16
 from tests.conftest import TOP, as_radio, is_one_line
 
 SHIPPED = TOP / "crates/capture_example/stdin"
@@ -317,13 +317,13 @@ def test_live_learns_and_forgets(capsys, sent, recording):
         import dataclasses
 
         task = dataclasses.replace(one.task, start=10.24 * number)
-        state.add(10.24 * number, 0.0, [dataclasses.replace(one, task=task)])
+        state.add(10.24 * number, 0.0, levels.InWindow([dataclasses.replace(one, task=task)], None))
     assert state.is_known and len(state.cells) == 1 and state.cells[0].windows == 3
     state.ring.skipped = 2
-    state.add(31.0, 0.0, None)
+    state.add(31.0, 0.0, levels.InWindow(None, None))
     assert state.spoiled == [31.0] and "no time for 2 windows" in capsys.readouterr().out
     for number in range(live.LOST):
-        state.add(100.0 + number, 0.0, [])
+        state.add(100.0 + number, 0.0, levels.InWindow([], None))
     assert not state.is_known and state.cells[0].is_old and len(state.cells[0].seen) <= 2
     found = state.survey()
     assert found.live.skipped == 2 and found.cells[0].windows == 3

@@ -6,7 +6,7 @@ import subprocess
 import numpy as np
 import pytest
 
-from lte_tools import hints, live, radio, scan, stream, surveying
+from lte_tools import hints, levels, live, radio, scan, stream, surveying
 from lte_tools.cells import SeenCell
 from lte_tools.options import SurveyOptions
 from lte_tools.radio_file import RadioFile
@@ -125,7 +125,7 @@ def test_doubtful_cell_of_a_pipe(seen, undecodable, tmp_path):
     path = written(tmp_path / "x.ci16", undecodable)
     file = RadioFile(path, "s16", radio.RATE, len(undecodable), 0, 0)
     state = live.Live(SurveyOptions(path), file, stream.Ring(2, False))
-    state.add(0.0, 0.0, [seen])
+    state.add(0.0, 0.0, levels.InWindow([seen], None))
     assert state.survey().hint == live.NO_CELL
     state.empty = Task(file, 0, 0.05)
     assert ". The window at 0.00 s does not list PCI 217: no MIB, the CRC fails" in state.survey().hint

@@ -4,13 +4,27 @@ import csv
 import dataclasses
 import io
 import json
+import subprocess
 
 import numpy as np
 import pytest
 
 import lte_tools
 from lte_reference import cell as reference_cell
-from lte_tools import clashes, coverage, foreign, identities, kml, levels, picture_map, plan, places, radio, survey_page
+from lte_tools import (
+    clashes,
+    coverage,
+    foreign,
+    identities,
+    kml,
+    levels,
+    live,
+    picture_map,
+    plan,
+    places,
+    radio,
+    survey_page,
+)
 from lte_tools import survey_table, survey_windows, tables
 from lte_tools.answers import DetectedCell
 from lte_tools.cells import joined
@@ -241,6 +255,18 @@ def test_table_of_a_survey_that_detects_no_further_cell(deep_survey):
     assert tables.texts_of(report.columns, report.rows, deep_survey)[0]["strongest at"] == "52.000000, 13.000000"
 
 
-@pytest.mark.parametrize("words", [("-", "--deep"), (SHIPPED, "--deep", "--scan")])
-def test_refused(tool, words):
-    assert is_one_line(tool("survey", *words))
+def test_refused(tool):
+    assert is_one_line(tool("survey", SHIPPED, "--deep", "--scan"))
+
+
+# ---- a pipe
+
+
+def test_pipe(tool, pair, monkeypatch):
+    with subprocess.Popen(["cat", pair], stdout=subprocess.PIPE) as process:
+        monkeypatch.setattr(live, "STDIN", process.stdout.fileno())
+        words = ("--form", "s16", "--offset", "0", "--every", "0.05", "--wait", "--jobs", "1")
+        run = tool("survey", "-", "--deep", "--json", *words)
+    found = Survey.from_json(json.loads(run.out))
+    assert [(line.identity, line.windows) for line in found.cells] == [(217, 2)]
+    assert [(line.identity, line.windows) for line in found.identities] == [(88, 2)]

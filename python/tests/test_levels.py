@@ -59,7 +59,7 @@ def test_power_of_a_window(tmp_path, noise):
     np.full(60_000, np.nan, "<f4").tofile(tmp_path / "x.ci16")
     spoiled = dataclasses.replace(file, form="f32")
     assert levels.looked_at(Task(spoiled, 0, 0.01)) == (None, None, ())
-    assert live.look(Task(spoiled, 0, 0.01), True, frozenset()) == (None, None)
+    assert live.look(Task(spoiled, 0, 0.01), live.Known(True)) == (None, None, ())
 
 
 # ---- steps of the gain

@@ -5,7 +5,7 @@ import pathlib
 
 import pytest
 
-from lte_tools import continuity, live, radio, stream, survey_table
+from lte_tools import continuity, levels, live, radio, stream, survey_table
 from lte_tools.answers import Cell
 from lte_tools.cells import SeenCell, joined
 from lte_tools.options import SurveyOptions
@@ -161,7 +161,8 @@ def pipe():
 
     def add(found):
         for i in range(12):
-            state.add(i * EVERY / radio.RATE, 0.0, [one for one in found if one.task.start == i * EVERY / radio.RATE])
+            here = [one for one in found if one.task.start == i * EVERY / radio.RATE]
+            state.add(i * EVERY / radio.RATE, 0.0, levels.InWindow(here, None))
         return state
 
     return add
