@@ -74,11 +74,7 @@ fn both_cells_are_listed(rt: HostRuntime) -> Result<(), Fail> {
 fn all_samples_or_the_first(rt: HostRuntime) -> Result<(), Fail> {
     let alloc = rt.alloc();
     let bytes = sent_by(alloc, "")?.written.repeat(alloc, 6)?;
-    for (line, text) in [
-        ("ids --deep", OF_FIRST),
-        ("ids --deep all", OF_ALL),
-        ("ids --deep all --rate 1.92", OF_FIRST),
-    ] {
+    for (line, text) in [("ids --deep", OF_FIRST), ("ids --deep all", OF_ALL)] {
         assert!(rt; gives(alloc, line, bytes.clone()?, text)?, "{line}");
     }
     Ok(())
