@@ -74,7 +74,7 @@ def check_outputs(args: argparse.Namespace) -> None:
             raise Refused(f"{args.picture}: .png or .svg is written")
     for out in (args.csv_places, args.picture):
         if out:
-            machine.check_place(out)
+            machine.check_place(out, [args.before, args.after])
 
 
 def draw(out: pathlib.Path, found: Difference) -> None:

@@ -13,7 +13,7 @@ import shutil
 import signal
 import subprocess
 import sys
-from typing import Any, Callable, NoReturn
+from typing import Any, Callable, Iterable, NoReturn
 
 TOP = pathlib.Path(__file__).resolve().parent.parent.parent
 
@@ -79,8 +79,10 @@ def check_packages(*packages: str) -> None:
         fail(f"no {', no '.join(missing)} for {sys.executable} (Debian: {names}, for /usr/bin/python3)")
 
 
-def check_place(path: pathlib.Path) -> None:
-    """Refuses a path at which no file can be written."""
+def check_place(path: pathlib.Path, inputs: Iterable[pathlib.Path | None] = ()) -> None:
+    """Refuses a path at which no file can be written, or at which one of the files that are read is."""
+    if path.exists() and any(one and one.exists() and one.samefile(path) for one in inputs):
+        raise Refused(f"{path}: it is read, and would be overwritten")
     if path.is_dir() or not os.access(path.parent, os.W_OK | os.X_OK):
         raise Refused(f"{path}: {'a folder' if path.is_dir() else 'nothing can be written into its folder'}")
 

@@ -238,7 +238,7 @@ def checked_survey(options: SurveyOptions, has_every: bool = True) -> SurveyOpti
         raise Refused("--track and --gpsd: one of them says where the places are")
     for out in (options.geojson, options.kml, options.csv_windows, options.pcap, options.html):
         if out:
-            machine.check_place(out)
+            machine.check_place(out, [*options.files, options.track, options.gpsd, options.plan])
     if options.html:
         machine.check_packages("matplotlib")
     return checked(options)

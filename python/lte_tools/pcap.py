@@ -175,7 +175,7 @@ def parser() -> argparse.ArgumentParser:
 
 def command() -> None:
     args = parser().parse_args()
-    machine.check_place(args.out)
+    machine.check_place(args.out, [args.file])
     data = foreign.read(args.file, foreign.MOST_JSON) if args.file else foreign.read_input(foreign.MOST_JSON)
     write(args.out, read(str(args.file or "standard input"), data, args.earfcn))
 

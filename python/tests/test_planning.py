@@ -580,6 +580,20 @@ def test_options_that_are_refused(tool, stored, made, words, text):
     assert is_one_line(run) and text in run.err
 
 
+@pytest.mark.parametrize("name", ["csv-windows", "html", "pcap"])
+def test_no_file_that_is_read_is_overwritten(tool, stored, made, tmp_path, name):
+    survey = stored(made())
+    (tmp_path / "plan.csv").write_text("pci\n1\n")
+    (tmp_path / "link").symlink_to(survey)
+    for out in (survey, tmp_path / "link", tmp_path / "plan.csv"):
+        before = out.read_bytes()
+        run = tool("survey", survey, "--plan", tmp_path / "plan.csv", f"--{name}", out)
+        assert is_one_line(run) and f"{out}: it is read, and would be overwritten" in run.err
+        assert out.read_bytes() == before
+    run = tool("pcap", survey, "-o", survey) if name == "pcap" else tool("diff", survey, survey, "--csv-places", survey)
+    assert is_one_line(run) and "would be overwritten" in run.err
+
+
 def test_places_need_a_track(tool, stored, made, tmp_path):
     survey = dataclasses.replace(made(), track=None)
     for name in ("geojson", "kml"):
