@@ -13,7 +13,7 @@ import numpy as np
 
 from . import radio
 from .cells import CLOCK, SeenCell, in_windows_order
-from .sightings import CYCLE, NEAR, Sighting, distance, is_alike, is_of_one_cell
+from .sightings import CYCLE, NEAR, Sighting, distance, is_of_one_cell
 from .survey_data import Gap
 
 FRAMES = CYCLE // radio.FRAME  # frame numbers
@@ -33,22 +33,27 @@ def looped(cells: Sequence[C]) -> list[C]:
     """Returns the cells, with lines that are one cell of a generator's loop as one."""
     lines: list[list[C]] = []
     for cell in sorted(cells, key=lambda cell: cell.seen[0].seconds):
-        line = next((line for line in reversed(lines) if is_further(line, cell)), None)
-        if line is None:
-            lines.append([cell])
-        else:
+        first = cell.seen[0]
+        line, last = latest(lines, cell)
+        if last is not None and is_near(last, first) and last.has_offset_of(first):
             line.append(cell)
+        else:
+            lines.append([cell])
     return [cell for line in lines for cell in (in_a_loop(line) or line)]
 
 
-def is_further(line: Sequence[SeenCell], later: SeenCell) -> bool:
-    """Returns whether a later line may be of a cell in a loop: at its position modulo a frame, with the same blocks."""
-    cell, first = line[-1], later.seen[0]
-    if cell.line.identity != later.line.identity or not is_alike(cell.line, later.line):
-        return False
-    before = [one for cell in line for one in cell.seen if one.seconds <= first.seconds]
-    last = max(before, key=lambda one: one.seconds)
-    return is_near(last, first) and last.has_offset_of(first)
+def latest(lines: Sequence[list[C]], later: SeenCell) -> tuple[list[C], Sighting | None]:
+    """Returns of the lines with a later line's identity and blocks the one that was seen last before it, and when; or
+    None."""
+    before: list[tuple[float, list[C], Sighting]] = [
+        (one.seconds, line, one)
+        for line in lines
+        if is_of_one_cell(line[-1].line, later.line)
+        for cell in line
+        for one in cell.seen
+        if one.seconds <= later.seen[0].seconds
+    ]
+    return max(before, key=lambda one: one[0])[1:] if before else ([], None)
 
 
 def is_near(last: Sighting, first: Sighting) -> bool:

@@ -138,6 +138,14 @@ def test_loop_of_a_generator(frames, repeats, every):
     assert lines == [(123, 40)] and jumps == [] and cell.repeats == repeats
 
 
+def test_gaps_of_nearly_whole_frames_are_no_loop():
+    """After the third gap the cell is 177 samples from its first position modulo a frame."""
+    found = cells_of({92: lambda i: 7_000 - 1_157 * (i >= 25) - 37_500 * (i >= 29) - 729_166 * (i >= 60)}, range(90))
+    lines, jumps, (cell,) = as_one(found)
+    assert lines == [(92, 90)] and cell.repeats is None
+    assert [round(jump.samples) for jump in jumps] == [1_157, 37_500, 729_166]
+
+
 def test_loop_whose_numbers_pass_1023():
     found = [sighting(123, i, 100, sfn=(1_020 + (17 * i) % 16) % 1024) for i in range(20)]
     _, _, (cell,) = as_one(found)
