@@ -62,6 +62,12 @@ def shown(value: object) -> str:
     return text if len(text) <= SHOWN else f"{text[:SHOWN]}.."
 
 
+def delimiter_of(text: str) -> str:
+    """Returns what separates the fields of a CSV file: a comma, or if the head line has none a semicolon or a tab."""
+    head = text.partition("\n")[0]
+    return next((one for one in ";\t" if one in head and "," not in head), ",")
+
+
 # ---- JSON
 
 

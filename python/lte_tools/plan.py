@@ -89,9 +89,7 @@ def read(path: pathlib.Path) -> list[Planned]:
     """Returns the cells of a plan; refuses a file that is none."""
     data = foreign.read(path, MOST_BYTES)
     text = data.decode("utf-16" if data.startswith(UTF_16) else "utf-8-sig", errors="replace")
-    head = text.partition("\n")[0]
-    delimiter = next((one for one in ";\t" if one in head and "," not in head), ",")
-    rows = csv.reader(io.StringIO(text, newline=""), delimiter=delimiter)
+    rows = csv.reader(io.StringIO(text, newline=""), delimiter=foreign.delimiter_of(text))
     try:
         names = [column_of(name) for name in next(rows, [])]
         if "identity" not in names:

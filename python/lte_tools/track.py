@@ -27,6 +27,8 @@ CENTURY = 80  # years of two digits from here on are of the last century
 MOST_BYTES = 128_000_000  # of a track
 MOST_PLACES = 2_000_000
 DEEPEST = 100  # elements of GPX within one another
+# other names of columns
+NAMES = {"timestamp": "time", "datetime": "time", "latitude": "lat", "longitude": "lon", "long": "lon", "lng": "lon"}
 FIRST, LAST = -62_000_000_000, 253_370_000_000  # seconds since 1970 of times that have four digits of a year
 
 
@@ -240,16 +242,20 @@ def of_gpx(text: str) -> tuple[list[Place], int]:
 
 
 def of_csv(text: str) -> tuple[list[Place], int]:
-    """Returns the place of each line below the head."""
-    rows = csv.DictReader(io.StringIO(text, newline=""))
+    """Returns the place of each line below the head. Without commas between fields, decimals may have them."""
+    delimiter = foreign.delimiter_of(text)
+    rows = csv.DictReader(io.StringIO(text, newline=""), delimiter=delimiter)
+    point = "," if delimiter == "," else "."
     places: list[Place] = []
     try:
-        names = {name.strip().lower(): name for name in rows.fieldnames or [] if name}
+        given = {name.strip().lower(): name for name in rows.fieldnames or [] if name}
+        names = {NAMES[name]: given[name] for name in NAMES if name in given} | given
         if missing := [name for name in ("time", "lat", "lon") if name not in names]:
             raise BadTrack(f"no column {', '.join(missing)}: the first line is time,lat,lon")
         time, lat, lon = (names[name] for name in ("time", "lat", "lon"))
         for row in rows:
-            places.append(place_of(seconds_of(row[time] or ""), row[lat], row[lon]))
+            place = [(row[name] or "").replace(",", point) for name in (lat, lon)]
+            places.append(place_of(seconds_of(row[time] or ""), *place))
             check_count(places)
     except csv.Error as fault:
         raise BadTrack(f"line {rows.line_num + 1}: not CSV: {fault}") from None

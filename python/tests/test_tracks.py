@@ -64,7 +64,12 @@ def nmea():
     return "\r\n".join([*lines, *wrong, "", sentence("GPRMC,000100.00,V,,,,,,,010526,,,N")])
 
 
-WAYS = {"a.gpx": (gpx(), 0), "a.nmea": (nmea(), 2), "a.csv": (table(), 0)}
+def sheet():
+    """The table as a spreadsheet writes it where decimals have a comma."""
+    return table().replace(",", ";").replace("lon;time;lat", "Longitude;Timestamp;Latitude").replace(".", ",")
+
+
+WAYS = {"a.gpx": (gpx(), 0), "a.nmea": (nmea(), 2), "a.csv": (table(), 0), "b.csv": (sheet(), 0)}
 
 
 @pytest.mark.parametrize("name", WAYS)
