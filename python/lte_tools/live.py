@@ -65,6 +65,10 @@ def opened(options: SurveyOptions) -> RadioFile:
     """Returns standard input as a file without samples: its form and rate are those of the options."""
     if options.form == "sigmf":
         raise Refused("-: SigMF is read from a file: --form says how its samples are written")
+    try:
+        os.fstat(STDIN)
+    except OSError:
+        raise Refused("-: standard input is closed, and samples are read from a pipe") from None
     if os.isatty(STDIN):
         raise Refused("-: standard input is a terminal, and samples are read from a pipe")
     form, rate = options.form or "s16", sources.whole(options.rate or radio.RATE)

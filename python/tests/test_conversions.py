@@ -6,6 +6,7 @@ import shutil
 import signal
 import struct
 import subprocess
+import sys
 
 import numpy as np
 import pytest
@@ -22,7 +23,6 @@ SHIPPED = TOP / "crates/capture_example/stdin"
 def binary(monkeypatch, tmp_path):
     """Runs a tool in this process whose output is bytes."""
     import io
-    import sys
 
     def run(name, *arguments, stdin=b""):
         module = __import__(f"lte_tools.{name}", fromlist=["main"])
@@ -162,8 +162,6 @@ def test_older_file_stays_where_there_is_no_room(tmp_path):
 
 
 def test_programs_are_found(monkeypatch, programs, tmp_path):
-    import sys
-
     assert machine.program("lte_cli") == str(programs / "lte_cli")
     monkeypatch.delenv("LTE_CLI")
     monkeypatch.setattr(machine, "TOP", tmp_path)
@@ -193,9 +191,20 @@ def test_many_files_with_programs_in_path(programs, tmp_path):
         assert done.returncode == 1 and ("empty.cu8: empty" in done.stderr) == has_programs
 
 
+def test_closed_standard_input():
+    words = [sys.executable, "-m", "lte_tools.survey", "-"]
+    keys = {
+        "capture_output": True,
+        "text": True,
+        "check": False,
+        "env": {**os.environ, "PYTHONPATH": str(TOP / "python")},
+    }
+    done = subprocess.run(words, preexec_fn=lambda: os.close(0), **keys)
+    assert done.returncode == 1 and done.stderr.count("\n") == 1 and "-: standard input is closed" in done.stderr
+
+
 def test_importing_has_no_effect():
     import subprocess
-    import sys
 
     text = "import signal; before = signal.getsignal(2); import lte_tools, lte_tools.survey, lte_tools.picture, sys; "
     text += "assert signal.getsignal(2) is before and 'numpy' not in sys.modules"
