@@ -87,8 +87,7 @@ class BadLine(Exception):
 
 def read(path: pathlib.Path) -> list[Planned]:
     """Returns the cells of a plan; refuses a file that is none."""
-    data = foreign.read(path, MOST_BYTES)
-    text = data.decode("utf-16" if data.startswith(UTF_16) else "utf-8-sig", errors="replace")
+    text = text_of(foreign.read(path, MOST_BYTES))
     rows = csv.reader(io.StringIO(text, newline=""), delimiter=foreign.delimiter_of(text))
     try:
         names = [column_of(name) for name in next(rows, [])]
@@ -104,6 +103,16 @@ def read(path: pathlib.Path) -> list[Planned]:
     if not found:
         raise Refused(f"{path}: no cell in it")
     return found
+
+
+def text_of(data: bytes) -> str:
+    """Returns the text of a plan in UTF-16 with its mark, in UTF-8, or as spreadsheets of Windows write it."""
+    if data.startswith(UTF_16):
+        return data.decode("utf-16", errors="replace")
+    try:
+        return data.decode("utf-8-sig")
+    except UnicodeDecodeError:
+        return data.decode("cp1252", errors="replace")
 
 
 def column_of(name: str) -> str:

@@ -413,6 +413,8 @@ def test_plan_as_programs_of_networks_export_it(tmp_path):
     (tmp_path / "plan.txt").write_text(head + "A\t63\t70001\t1\t4711\t6200\n", encoding="utf-16")
     (one,) = plan.read(tmp_path / "plan.txt")
     assert one == plan.Planned(2, "A", 63, CELLS[63], 4711, None, 796e6, None)
+    (tmp_path / "plan.csv").write_text("name;pci\nMühle;63\n", encoding="cp1252")
+    assert [one.name for one in plan.read(tmp_path / "plan.csv")] == ["Mühle"]
 
 
 def test_plan_by_identity_alone(made, tmp_path):
