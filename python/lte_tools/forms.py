@@ -38,6 +38,7 @@ FORMS = {
     "f32": Form("<f4", 0, 1),
 }
 GREAT, SMALL = 1e9, 1e-20  # magnitudes that no component of f32 has
+COARSE = 8  # low bytes for each high byte of s16 that a converter of few bits gives, at most
 LOUD, ENOUGH = 512, 1_000  # components of s16 whose low bytes are looked at, and how many of them are needed
 
 
@@ -70,7 +71,8 @@ def fault_of_bytes(data: Bytes, form: str) -> str | None:
 
 
 def fault_of_words(data: Bytes, _: str) -> str | None:
-    """The low byte of loud components is as good as random; if not, it is another form's."""
+    """The low byte of loud components is as good as random; if not, it is another form's, or few values go with each high
+    byte, as in numbers of a converter of 8 to 11 bits that were multiplied."""
     words = data[: len(data) // 4 * 4].view("<i2").astype(int)
     if not len(words):
         return None
@@ -81,7 +83,7 @@ def fault_of_words(data: Bytes, _: str) -> str | None:
     if len(loud) < ENOUGH:
         return None
     low, high = loud & 0xFF, loud >> 8
-    if unevenness(low) < 0.3 or len(np.unique(low)) <= 8:
+    if unevenness(low) < 0.3 or len(np.unique(loud)) <= COARSE * len(np.unique(high)):
         return None
     if unevenness(high & 0xFF) < 0.1:
         return "the low byte is even and the high one is not: the high byte may come first, which is not read"

@@ -304,6 +304,23 @@ def test_form_is_recognised(written_as, read_as, text):
     assert (fault is None) if text is None else text in fault
 
 
+@pytest.mark.parametrize("bits", [8, 9, 10, 11, 12, 14])
+@pytest.mark.parametrize("rms", [0.05, 0.2])
+def test_numbers_of_a_converter_of_few_bits(bits, rms):
+    """Numbers of so many bits, multiplied to fill 16, as programs of radios write those of a dongle."""
+    half = (2**bits - 1) / 2
+    parts = np.clip(np.round(tone(rms).view(float) * half - 0.5) + 0.5, -half, half)
+    words = np.round(parts * 32_767 / half).astype("<i2")
+    assert forms.fault_of(words.view("u1"), "s16") is None
+
+
+@pytest.mark.parametrize("rms", [0.05, 0.1, 0.2])
+def test_bytes_as_words(rms):
+    from tests.conftest import written
+
+    assert "no low bytes" in forms.fault_of(np.frombuffer(written(tone(rms), "s8"), "u1"), "s16")
+
+
 def test_high_byte_first():
     from tests.conftest import written
 
