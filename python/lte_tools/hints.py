@@ -84,7 +84,7 @@ def of_cancelling(cells: Sequence[SeenCell], file: RadioFile) -> str | None:
         return None
     return (
         f"if PCI {one.line.identity} hides a weaker cell: --deep detects its identity; for its MIB {' and '.join(faults)}, "
-        f"since lte_cli search --cancel cancels cells of up to {LOUDEST} dBFS without a frequency offset"
+        f"since lte_cli search --cancel cancels cells of up to {LOUDEST} dBFS without traffic or a frequency offset"
     )
 
 
