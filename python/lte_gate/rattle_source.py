@@ -168,7 +168,7 @@ def root_of(crate):
 
 def is_of_tests(crate):
     """Returns whether a crate of this name is of tests."""
-    return crate.endswith("_tests") or crate in ("test_support", "published_calls")
+    return crate.endswith("_tests") or crate in ("test_support", "run_support", "published_calls")
 
 
 # ---- src/

@@ -3,10 +3,10 @@
 use crate::inputs::plain_description;
 use cell_tx::CellError;
 use lte_top::Status;
+use run_support::{Output, output_of};
 use std::alloc::{AllocError, Global};
 use std::test::Fail;
 use test_support::certificate_of_zeros;
-use top_tests::{Output, output_of};
 
 // Runs `check` on the first `len` bytes of the all-zero certificate.
 fn check_of_front(alloc: Global, len: usize) -> Result<Output, AllocError> {

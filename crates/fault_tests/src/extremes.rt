@@ -1,11 +1,11 @@
 //! Recordings whose samples have the largest magnitudes.
 
 use lte_top::Status;
+use run_support::{gives, output_of};
 use sample_file::bytes_of;
 use std::alloc::{AllocError, Global};
 use std::test::Fail;
 use test_support::{primary_grid, put_sample, send_often, silence, silent};
-use top_tests::{gives, output_of};
 
 // Returns a recording of 57,600 equal samples.
 fn constant(alloc: Global, re: i16, im: i16) -> Result<Vec<u8>, AllocError> {

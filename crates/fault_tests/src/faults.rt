@@ -8,13 +8,13 @@ use crate::forms::{
 use crate::inputs::{Input, bytes_of, recording};
 use cs_outside::{FailSink, FailSource, MemSource, StdSink, StdSource};
 use lte_top::{Program, Status, Words, run};
+use run_support::{Output, ROOM, command_line, output_by, output_from, output_into, output_of};
 use std::alloc::{AllocError, Global};
 use std::io;
 use std::io::Write;
 use std::process::Abort;
 use std::test::Fail;
 use test_support::silence;
-use top_tests::{Output, ROOM, command_line, output_by, output_from, output_into, output_of};
 
 // The maximum byte count of a call.
 const MOST: usize = 65_536;

@@ -1,9 +1,9 @@
 //! Valid inputs of command forms.
 
 use lte_top::Status;
+use run_support::{output_of, sent_by, with_four_ports, with_long_prefix, with_two_ports};
 use std::alloc::{AllocError, Global};
 use test_support::{certificate_of_zeros, description, silence};
-use top_tests::{output_of, sent_by, with_four_ports, with_long_prefix, with_two_ports};
 
 // The gains of antenna ports 1 to 3, for four ports.
 const OTHER_GAINS: &str = ", \"gain2\": [0, 1], \"gain3\": [1, 0], \"gain4\": [0, -1]";

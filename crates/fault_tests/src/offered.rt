@@ -5,12 +5,12 @@ use crate::forms::{APPLYING, Form, OTHERS, PAGES, REASONS, REPORTS, SENDING, TEL
 use crate::inputs::{bytes_of, description_with, recording, sixteen_cells};
 use cs_outside::{MemSource, StdSink};
 use lte_top::{Program, Status, run_program};
+use run_support::command_line;
 use std::alloc::{AllocError, Global};
 use std::io;
 use std::io::Write;
 use std::process::Abort;
 use std::test::Fail;
-use top_tests::command_line;
 
 // The minimum length of a piece, except for the last.
 const LEAST: usize = 4_096;

@@ -4,12 +4,12 @@ use crate::forms::{APPLYING, Form, OTHERS, REASONS, REPORTS, SENDING};
 use crate::inputs::{Input, bytes_of};
 use cs_outside::{MemSink, StdSource};
 use lte_top::{Program, Status, run_program};
+use run_support::{ROOM, command_line};
 use std::alloc::{AllocError, Global};
 use std::io;
 use std::io::{ErrorKind, Read};
 use std::process::Abort;
 use std::test::Fail;
-use top_tests::{ROOM, command_line};
 
 // A number of calls that no run reaches.
 const CALLS: usize = 1_000_000;

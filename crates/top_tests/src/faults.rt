@@ -1,7 +1,6 @@
 //! Runs on zeros with a failing source or sink.
 
-use crate::commands::output_within;
-use crate::{Output, ROOM, command_line, output_from, output_into};
+use crate::{Output, ROOM, command_line, output_from, output_into, output_within};
 use cs_outside::{FailSink, FailSource, MemSource};
 use lte_top::{Program, Status};
 use std::alloc::{AllocError, Global};

@@ -2,13 +2,11 @@
 //! sinks that fail.
 #![tactic(auto)]
 
-mod carriers;
-mod commands;
-
-pub use carriers::{with_four_ports, with_long_prefix, with_two_ports};
-pub use commands::{
+#[cfg(test)]
+use run_support::{
     Output, ROOM, command_line, gives, gives_by, is_no_form, output_by, output_from, output_into,
-    output_of, output_unread, sent_by, sent_with, sent_with_words,
+    output_of, output_unread, output_within, sent_by, sent_with, sent_with_words, with_four_ports,
+    with_long_prefix, with_two_ports,
 };
 
 #[cfg(test)]

@@ -87,7 +87,7 @@ pub fn output_of(alloc: Global, line: &str, bytes: Vec<u8>) -> Result<Output, Al
 }
 
 /// Runs a command of `lte_cli` on `bytes`, into a sink with room for `room` bytes.
-pub(crate) fn output_within(
+pub fn output_within(
     alloc: Global,
     line: &str,
     bytes: Vec<u8>,
