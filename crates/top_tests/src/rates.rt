@@ -1,8 +1,9 @@
 //! Recordings at a given sample rate. Expected values that the standard does not give are from the reference
 //! implementation: `narrowed` of `python/lte_reference/wide_slots.py`, then `search.py` and `forms.py`.
 
+use crate::samples_of_8_bits::quiet;
 use crate::{
-    command_line, gives, gives_by, is_no_form, output_by, output_of, output_unread, sent_by,
+    Output, command_line, gives, gives_by, is_no_form, output_by, output_of, output_unread, sent_by,
 };
 use lte_top::{Program, Status};
 use std::alloc::{AllocError, Global};
@@ -10,81 +11,116 @@ use std::process::Abort;
 use std::test::Fail;
 use test_support::{PLAIN_REPORT, silence};
 
-// The rates, each with its multiple of 1.92 million samples per second.
+// The option for each rate, with the rate's multiple of 1.92 million samples per second.
 const RATES: [(&'static str, usize); 5] = [
-    ("1.92", 1),
-    ("3.84", 2),
-    ("7.68", 4),
-    ("15.36", 8),
-    ("30.72", 16),
+    ("--rate 1.92", 1),
+    ("--rate 3.84", 2),
+    ("--rate 7.68", 4),
+    ("--rate 15.36", 8),
+    ("--rate 30.72", 16),
 ];
 
 // ---- arguments
 
+// Joins the front and the back of a command line by a space.
+fn joined(alloc: Global, front: &str, back: &str) -> Result<String, AllocError> {
+    format!(in alloc; "{front} {back}")
+}
+
+// Returns whether a command line selects a form of a program, which then reads its input.
+fn is_form_read(
+    alloc: Global,
+    program: Program,
+    front: &str,
+    back: &str,
+) -> Result<bool, AllocError> {
+    let words = command_line(alloc, &joined(alloc, front, back)?)?;
+    let (output, _) = output_unread(alloc, program, &words)?;
+    Ok(output.status == Status::ReadFault)
+}
+
+// Returns whether a command line selects no form of a program.
+fn is_of_no_form(
+    alloc: Global,
+    program: Program,
+    front: &str,
+    back: &str,
+) -> Result<bool, AllocError> {
+    is_no_form(
+        alloc,
+        program,
+        &command_line(alloc, &joined(alloc, front, back)?)?,
+    )
+}
+
+// Forms of `lte_cli` that take a rate, one a line.
+const RECEIVED: &str = "hits
+hits --json --format cu8
+ids --json
+ids --deep all --json
+search
+search --ports 2 --format cu8
+search --ports 4 --json
+search --prefix long
+search --cancel
+search --all --json --format cu8
+evidence --ports 2
+evidence --json --format cu8
+why 503 --ports 4 --json
+certify
+certify --prefix long --format cu8";
+
+// Forms of `lte_tune` that take a rate, one a line.
+const TUNED: &str = "tell
+apply
+apply 0 --format cu8
+apply -2048
+tell --json --format cu8";
+
 #[test]
 fn each_report_takes_each_rate(rt: HostRuntime) -> Result<(), Fail> {
-    for (program, front) in [
-        (Program::Receiver, "hits"),
-        (Program::Receiver, "hits --json --format cu8"),
-        (Program::Receiver, "ids --json"),
-        (Program::Receiver, "ids --deep all --json"),
-        (Program::Receiver, "search"),
-        (Program::Receiver, "search --ports 2 --format cu8"),
-        (Program::Receiver, "search --ports 4 --json"),
-        (Program::Receiver, "search --prefix long"),
-        (Program::Receiver, "search --cancel"),
-        (Program::Receiver, "search --all --json --format cu8"),
-        (Program::Receiver, "evidence --ports 2"),
-        (Program::Receiver, "evidence --json --format cu8"),
-        (Program::Receiver, "why 503 --ports 4 --json"),
-        (Program::Receiver, "certify"),
-        (Program::Receiver, "certify --prefix long --format cu8"),
-        (Program::Tuner, "tell"),
-        (Program::Tuner, "apply"),
-        (Program::Tuner, "apply 0 --format cu8"),
-        (Program::Tuner, "apply -2048"),
-        (Program::Tuner, "tell --json --format cu8"),
-    ] {
-        for (rate, _) in RATES {
-            let line = format!(in rt.alloc(); "{front} --rate {rate}")?;
-            let words = command_line(rt.alloc(), &line)?;
-            let (output, _) = output_unread(rt.alloc(), program, &words)?;
-            assert!(rt; output.status == Status::ReadFault, "{line}");
+    for (program, forms) in [(Program::Receiver, RECEIVED), (Program::Tuner, TUNED)] {
+        for front in forms.split('\n') {
+            for (rate, _) in RATES {
+                assert!(rt;
+                    is_form_read(rt.alloc(), program, front, rate)?,
+                    "{front} {rate}"
+                );
+            }
         }
     }
     Ok(())
 }
 
+// Words after `search` that are no rate, one case a line.
+const NO_RATES: &str = "--rate
+--rate 0
+--rate 1
+--rate 1.920
+--rate 01.92
+--rate 1,92
+--rate +1.92
+--rate 1.92e6
+--rate 1920000
+--rate 2.4
+--rate 3.84M
+--rate 11.52
+--rate 23.04
+--rate 61.44
+--rate cu8
+--rate 3.84 7.68
+--rate 3.84 --rate 3.84
+--rate 3.84 --json
+--rate 3.84 --format cu8
+--rate=3.84
+3.84";
+
 #[test]
 fn no_other_rate_is_taken(rt: HostRuntime) -> Result<(), Fail> {
-    for back in [
-        "--rate",
-        "--rate 0",
-        "--rate 1",
-        "--rate 1.920",
-        "--rate 01.92",
-        "--rate 1,92",
-        "--rate +1.92",
-        "--rate 1.92e6",
-        "--rate 1920000",
-        "--rate 2.4",
-        "--rate 3.84M",
-        "--rate 11.52",
-        "--rate 23.04",
-        "--rate 61.44",
-        "--rate cu8",
-        "--rate 3.84 7.68",
-        "--rate 3.84 --rate 3.84",
-        "--rate 3.84 --json",
-        "--rate 3.84 --format cu8",
-        "--rate=3.84",
-        "3.84",
-    ] {
-        let line = format!(in rt.alloc(); "search {back}")?;
-        let words = command_line(rt.alloc(), &line)?;
+    for back in NO_RATES.split('\n') {
         assert!(rt;
-            is_no_form(rt.alloc(), Program::Receiver, &words)?,
-            "{line}"
+            is_of_no_form(rt.alloc(), Program::Receiver, "search", back)?,
+            "{back}"
         );
     }
     Ok(())
@@ -92,22 +128,37 @@ fn no_other_rate_is_taken(rt: HostRuntime) -> Result<(), Fail> {
 
 #[test]
 fn forms_without_a_recording_take_no_rate(rt: HostRuntime) -> Result<(), Fail> {
-    for (program, front) in [
-        (Program::Receiver, "check"),
-        (Program::Receiver, "transmit"),
-        (Program::Receiver, "make 7"),
-        (Program::Receiver, "help"),
-        (Program::Receiver, "version"),
+    for (program, forms) in [
+        (Program::Receiver, "check\ntransmit\nmake 7\nhelp\nversion"),
         (Program::Tuner, "help"),
     ] {
-        let line = format!(in rt.alloc(); "{front} --rate 1.92")?;
-        let words = command_line(rt.alloc(), &line)?;
-        assert!(rt; is_no_form(rt.alloc(), program, &words)?, "{line}");
+        for front in forms.split('\n') {
+            assert!(rt;
+                is_of_no_form(rt.alloc(), program, front, "--rate 1.92")?,
+                "{front}"
+            );
+        }
     }
     Ok(())
 }
 
 // ---- silence
+
+// Returns whether a command of `lte_cli` on `bytes` ends with `Done`, and writes exactly `text`.
+fn gives_at(
+    alloc: Global,
+    front: &str,
+    rate: &str,
+    bytes: Vec<u8>,
+    text: &str,
+) -> Result<bool, AllocError> {
+    gives(alloc, &joined(alloc, front, rate)?, bytes, text)
+}
+
+// Returns whether a command on silence at 3.84 million samples per second writes exactly `text`.
+fn silence_gives(alloc: Global, front: &str, text: &str) -> Result<bool, AllocError> {
+    gives_at(alloc, front, "--rate 3.84", silence(alloc, 460_800)?, text)
+}
 
 #[test]
 fn each_report_of_silence(rt: HostRuntime) -> Result<(), Fail> {
@@ -123,31 +174,32 @@ fn each_report_of_silence(rt: HostRuntime) -> Result<(), Fail> {
         ("evidence", "evidence 0\n"),
         ("certify", ""),
     ] {
-        let line = format!(in rt.alloc(); "{front} --rate 3.84")?;
-        assert!(rt;
-            gives(rt.alloc(), &line, silence(rt.alloc(), 460_800)?, report)?,
-            "{line}"
-        );
+        assert!(rt; silence_gives(rt.alloc(), front, report)?, "{front}");
     }
     Ok(())
+}
+
+// Returns whether the cell list of a recording is empty.
+fn lists_nothing(
+    alloc: Global,
+    front: &str,
+    rate: &str,
+    bytes: Vec<u8>,
+) -> Result<bool, AllocError> {
+    gives_at(alloc, front, rate, bytes, "cells 0\n")
 }
 
 #[test]
 fn silence_is_listed_at_each_rate(rt: HostRuntime) -> Result<(), Fail> {
+    let alloc = rt.alloc();
     for (rate, factor) in RATES {
-        let zeros = silence(rt.alloc(), 230_400 * factor)?;
-        let line = format!(in rt.alloc(); "search --rate {rate}")?;
-        assert!(rt; gives(rt.alloc(), &line, zeros, "cells 0\n")?, "{line}");
-    }
-    Ok(())
-}
-
-#[test]
-fn silence_of_8_bits_is_listed_at_each_rate(rt: HostRuntime) -> Result<(), Fail> {
-    for (rate, factor) in RATES {
-        let quiet = vec![in rt.alloc(); 127u8; 115_200 * factor]?;
-        let line = format!(in rt.alloc(); "search --format cu8 --rate {rate}")?;
-        assert!(rt; gives(rt.alloc(), &line, quiet, "cells 0\n")?, "{line}");
+        let zeros = silence(alloc, 230_400 * factor)?;
+        assert!(rt; lists_nothing(alloc, "search", rate, zeros)?, "{rate}");
+        let zeros = quiet(alloc, 115_200 * factor)?;
+        assert!(rt;
+            lists_nothing(alloc, "search --format cu8", rate, zeros)?,
+            "{rate}"
+        );
     }
     Ok(())
 }
@@ -169,41 +221,56 @@ fn silence_has_no_offset(rt: HostRuntime) -> Result<(), Fail> {
 
 // ---- lengths
 
+// Returns whether a command refuses `count` bytes of silence with a status and an exit code, and writes nothing.
+fn is_refused_at(
+    alloc: Global,
+    rate: &str,
+    count: usize,
+    refusal: Status,
+    code: u8,
+) -> Result<bool, AllocError> {
+    let line = joined(alloc, "hits", rate)?;
+    Ok(output_of(alloc, &line, silence(alloc, count)?)?.is_refused(refusal, code))
+}
+
 #[test]
 fn lengths_are_limited_in_time(rt: HostRuntime) -> Result<(), Fail> {
     for (rate, factor) in RATES {
-        let line = format!(in rt.alloc(); "hits --rate {rate}")?;
         for (count, refusal, code) in [
             (0, Status::TooShort, 4),
             (230_400 * factor - 4, Status::TooShort, 4),
             (230_400 * factor - 1, Status::Ragged, 3),
             (230_400 * factor + 2, Status::Ragged, 3),
         ] {
-            let output = output_of(rt.alloc(), &line, silence(rt.alloc(), count)?)?;
-            assert!(rt; output.is_refused(refusal, code), "{line}: {count} bytes");
+            assert!(rt;
+                is_refused_at(rt.alloc(), rate, count, refusal, code)?,
+                "{rate}: {count} bytes"
+            );
         }
     }
     Ok(())
 }
 
+// Runs a command on `count` bytes of value 127.
+fn quiet_output(alloc: Global, line: &str, count: usize) -> Result<Output, AllocError> {
+    output_of(alloc, line, quiet(alloc, count)?)
+}
+
+// Returns whether a command accepts `most` bytes, and refuses one byte more as too long.
+fn is_longest(alloc: Global, line: &str, most: usize) -> Result<bool, AllocError> {
+    let is_read = quiet_output(alloc, line, most)?.status == Status::Done;
+    let longer = quiet_output(alloc, line, most.saturating_add(1))?;
+    Ok(is_read && longer.is_refused(Status::TooLong, 5))
+}
+
 #[test]
 fn one_second_is_the_maximum(rt: HostRuntime) -> Result<(), Fail> {
-    let alloc = rt.alloc();
     for (line, most) in [
         ("certify --rate 1.92", 7_680_000),
         ("hits --rate 3.84", 15_360_000),
         ("hits --format cu8 --rate 7.68", 15_360_000),
     ] {
-        let whole = vec![in alloc; 127u8; most]?;
-        assert!(rt;
-            output_of(alloc, line, whole)?.status == Status::Done,
-            "{line}"
-        );
-        let longer = vec![in alloc; 127u8; most + 1]?;
-        assert!(rt;
-            output_of(alloc, line, longer)?.is_refused(Status::TooLong, 5),
-            "{line}"
-        );
+        assert!(rt; is_longest(rt.alloc(), line, most)?, "{line}");
     }
     Ok(())
 }
@@ -220,7 +287,7 @@ fn agrees(
     second: &[u8],
 ) -> Result<bool, AllocError> {
     let plain = output_by(alloc, program, front, first.to_vec(alloc)?)?;
-    let line = format!(in alloc; "{front} --rate 1.92")?;
+    let line = joined(alloc, front, "--rate 1.92")?;
     let rated = output_by(alloc, program, &line, second.to_vec(alloc)?)?;
     Ok(
         plain.status == Status::Done
@@ -284,13 +351,17 @@ fn corrections_at_1_92(rt: HostRuntime) -> Result<(), Fail> {
     Ok(())
 }
 
+// Returns whether a command of `lte_tune` writes silence for the same silence.
+fn leaves_silence(alloc: Global, line: &str) -> Result<bool, AllocError> {
+    let zeros = silence(alloc, 460_800)?;
+    let output = output_by(alloc, Program::Tuner, line, zeros.clone()?)?;
+    Ok(output.is(Status::Done, &zeros))
+}
+
 #[test]
 fn corrected_silence_is_silence(rt: HostRuntime) -> Result<(), Fail> {
-    let (alloc, tuner) = (rt.alloc(), Program::Tuner);
-    let zeros = silence(alloc, 460_800)?;
     for line in ["apply --rate 3.84", "apply 9 --rate 3.84"] {
-        let output = output_by(alloc, tuner, line, zeros.clone()?)?;
-        assert!(rt; output.is(Status::Done, &zeros), "{line}");
+        assert!(rt; leaves_silence(rt.alloc(), line)?, "{line}");
     }
     Ok(())
 }
@@ -311,9 +382,11 @@ fn a_cell_is_listed_at_each_rate(rt: HostRuntime) -> Result<(), Fail> {
     let alloc = rt.alloc();
     let cell = sent_by(alloc, "")?.written;
     for (rate, factor) in RATES {
-        let line = format!(in alloc; "search --rate {rate}")?;
         let bytes = repeated(alloc, &cell, factor)?;
-        assert!(rt; gives(alloc, &line, bytes, PLAIN_REPORT)?, "{line}");
+        assert!(rt;
+            gives_at(alloc, "search", rate, bytes, PLAIN_REPORT)?,
+            "{rate}"
+        );
     }
     Ok(())
 }
@@ -355,7 +428,7 @@ fn ends_early(rt: &impl Abort, alloc: Global, program: Program, front: &str) -> 
     let mut first = sent_by(alloc, "")?.written;
     first.extend_from_slice(&silence(alloc, 1_305_600 - 230_400)?)?;
     let mut longer = first.clone()?;
-    longer.extend_from_slice(&vec![in alloc; 127u8; 40_000]?)?;
+    longer.extend_from_slice(&quiet(alloc, 40_000)?)?;
     assert!(rt; agrees(alloc, program, front, &first, &longer)?, "{front}");
     Ok(())
 }

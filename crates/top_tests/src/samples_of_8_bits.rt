@@ -5,8 +5,8 @@ use lte_top::Status;
 use std::alloc::{AllocError, Global};
 use std::test::Fail;
 
-// Returns `count` bytes of value 127, each an 8-bit component that stands for -1.
-fn quiet(alloc: Global, count: usize) -> Result<Vec<u8>, AllocError> {
+/// Returns `count` bytes of value 127, each an 8-bit component that stands for -1.
+pub(crate) fn quiet(alloc: Global, count: usize) -> Result<Vec<u8>, AllocError> {
     vec![in alloc; 127u8; count]
 }
 
