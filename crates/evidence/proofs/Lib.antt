@@ -6,8 +6,6 @@ pub mod Numbers
 pub mod Only
 pub mod SetBlocks
 mod Early
-mod FirstBlocks
-mod OneBlock
 pub mod Each
 -- An entry's PSS detection for a cell to which the recording is faithful is at a primary signal's position.
 mod PeakOfEntry

@@ -5,10 +5,11 @@ use Rattle.cs_num.specs.declared.Sample.{Sample}
 use Rattle.lte_types.specs.declared.entry.Entry.{Entry}
 use Rattle.explain.specs.Receiver.{Receiver}
 use Rattle.explain.proofs.Listed.{each_once}
+use Rattle.explain.proofs.Blocks.{one_block_for}
+use Rattle.explain.specs.Entries.{place_of}
 use Rattle.lte_types.specs.declared.evidence.Evidence.{Evidence}
 use Rattle.evidence.specs.Evidence.{IsEvidenceFor, thousandths}
 use Rattle.evidence.specs.Shown.{Shown, IsShownFor}
-use Rattle.evidence.proofs.OneBlock.{one_system_block}
 
 -- measurements with equal numbers are equal
 same_evidence : (a b : Evidence) → a.id ≡ b.id → a.start ≡ b.start → a.sfn ≡ b.sfn → a.t ≡ b.t → a.peak ≡ b.peak → a.cost ≡ b.cost → a.total ≡ b.total →
@@ -29,7 +30,7 @@ one_shown receiver recording entry a b p q i = record {
   numbers = one_evidence receiver recording entry a.numbers b.numbers p.numbers q.numbers i;
   slot = (p.slot ∙ sym q.slot) i;
   master = (p.master ∙ sym q.master) i;
-  block = one_system_block receiver.carrier recording entry a.block b.block p.block q.block i;
+  block = one_block_for receiver recording (place_of entry) entry.sfn entry.mib entry.sib1 a.block b.block p.block q.block i;
 }
 
 -- the measurements of a list's entries are unique

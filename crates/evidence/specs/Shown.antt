@@ -31,4 +31,4 @@ pub record IsShownFor (receiver : Receiver) (recording : List Sample) (entry : E
   pub numbers : IsEvidenceFor receiver recording entry shown.numbers
   pub slot : shown.slot ≡ shown_in receiver.carrier recording (place_of entry) entry.frame
   pub master : shown.master ≡ master_bits entry.mib
-  pub block : IsSystemBlock receiver.carrier recording entry shown.block
+  pub block : IsSystemBlock receiver recording entry shown.block

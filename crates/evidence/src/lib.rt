@@ -4,7 +4,6 @@
 //! Tests: `top_tests/src/evidence_of_cells.rt`.
 #![tactic(auto)]
 
-mod blocks;
 mod clear;
 mod listing;
 mod noise;

@@ -10,15 +10,14 @@ ghost use Rattle.evidence.specs.Blocks.{master_number, master_bits};
 ghost use Rattle.evidence.specs.Shown.{Shown, IsShownFor, with_bits, with_blocks};
 
 use crate::SlotShown;
-use crate::blocks::system_block;
 use crate::listing::numbers_and_slot;
 use cs_bits::Bits;
 use explain::Reading;
 use lte_types::{Carrier, Entry, Evidence, Mib};
 use sample_file::Recording;
-use sib1_reader::Decoders;
 use std::alloc::{AllocError, Global};
 use std::marker::Model;
+use turbo_dec::Block;
 
 /// Measurements of an entry and its slot, with the bits of its MIB and of its SIB1's transport block. (own)
 #[derive(Drop)]
@@ -80,6 +79,15 @@ impl Support {
     }
 }
 
+// Returns a transport block's bits as a list.
+fn list_of(alloc: Global, block: &Block) -> Result<Vec<bool>, AllocError>
+    ensures { IfOk result (λ list. list.items ≡ block.now.items) }
+{
+    let mut list = Vec::new(alloc);
+    list.extend_from_slice(block.as_slice())?;
+    Ok(list)
+}
+
 // Returns the 24 bits of a MIB.
 fn bits_of(mib: &Mib) -> Bits<24>
     ensures bits { result ≡ master_bits mib.now }
@@ -97,7 +105,7 @@ fn number_of(mib: &Mib) -> u64
 }
 
 /// Returns, for each entry, its measurements as in `evidence_of_list`, its slot's measurements, and the bits of its MIB
-/// and its SIB1, whose transport block is decoded again. Fails only if an allocation fails. (own)
+/// and its SIB1. Fails only if an allocation fails. (own)
 pub fn support_of_list(
     alloc: Global,
     recording: &Recording,
@@ -111,23 +119,21 @@ pub fn support_of_list(
     requires readings { AllZip (IsReadingFor receiver recording.now) entries.now readings.now }
     ensures { IfOk result (λ list. AllZip (IsShownFor receiver recording.now) entries.now list.items) }
 {
-    let mut work = Decoders::new(alloc)?;
     let mut list = Vec::with_capacity(alloc, entries.len())?;
     for (i, entry) in entries.iter().enumerate() {
-        let support = support_of(alloc, recording, carrier, entry, &readings[i], &mut work)?;
+        let support = support_of(alloc, recording, carrier, entry, &readings[i])?;
         list.push(support)?;
     }
     Ok(list)
 }
 
-// Returns an entry's measurements and bits. This is the body of the loop over entries, which needs all six parameters.
+// Returns an entry's measurements and bits. The transport block is that of its reading.
 fn support_of(
     alloc: Global,
     recording: &Recording,
     carrier: Carrier,
     entry: &Entry,
     reading: &Reading,
-    work: &mut Decoders,
 ) -> Result<Support, AllocError>
     ghost receiver: { Receiver }
     requires carrier { carrier ≡ receiver.carrier }
@@ -136,7 +142,7 @@ fn support_of(
     requires reading { IsReadingFor receiver recording.now entry.now reading.now }
     ensures { IfOk result (IsShownFor receiver recording.now entry.now) }
 {
-    let block = system_block(alloc, recording, carrier, entry, work)?;
+    let block = list_of(alloc, &reading.block)?;
     let (numbers, slot) = numbers_and_slot(recording, carrier, entry, reading);
     Ok(Support {
         numbers,

@@ -14,7 +14,7 @@ use Rattle.lte_types.specs.CellPlace.{Place}
 use Rattle.lte_types.specs.Frames.{Frames}
 use Rattle.pbch.specs.declared.master.Master.{Master}
 use Rattle.explain.specs.declared.readings.Reading.{Reading}
-use Rattle.explain.specs.Decoded.{Granting}
+use Rattle.explain.specs.Decoded.{Granting, Carrying}
 use Rattle.explain.specs.Entries.{place_of, frames_of}
 use Rattle.explain.specs.Masters.{entry_of}
 use Rattle.explain.specs.Places.{is_same_place, is_met}
@@ -28,16 +28,18 @@ keeps Is entry reading old new before after (inl kept) is all =
 keeps Is entry reading old new before after (inr put) is all =
     subst (λ xs. AllZip Is xs after) (sym put.entries) (subst (λ ys. AllZip Is (insert old put.at entry) ys) (sym put.readings) (all_zip_insert Is put.at old before entry reading put.within is all))
 
--- the reading of the entry for a MIB, with the sums and the grant found with it
-module _ (summed : Place → Frames → List (List ℤ)) (IsGrant : Granting) (place_by : Hit → Place) (hits : List Hit) where
+-- the reading of the entry for a MIB, with the sums, the grant and the block found with it
+module _ (summed : Place → Frames → List (List ℤ)) (IsGrant : Granting) (IsBlock : Carrying) (place_by : Hit → Place) (hits : List Hit) where
   pub reads_so : (place : Place) (frames : Frames) (master : Master) (entry : Entry) (reading : Reading) → entry ≡ entry_of place frames master entry.sib1 →
       IsFirstAt place_by hits place reading.hit → reading.sums ≡ summed place frames → IsGrant place entry.sfn master.mib entry.sib1 reading.granted →
-      IsReadingBy summed IsGrant place_by hits entry reading
-  reads_so place frames master entry reading whole first decoded granted = record {
+      IsBlock place entry.sfn master.mib entry.sib1 reading.block.items → IsReadingBy summed IsGrant IsBlock place_by hits entry reading
+  reads_so place frames master entry reading whole first decoded granted carried = record {
     hit = subst (λ p. IsFirstAt place_by hits p reading.hit) (sym here) first;
     sums = decoded ∙ sym (ap₂ summed here (ap frames_of whole));
     granted = subst (λ (p : Place). IsGrant p entry.sfn entry.mib entry.sib1 reading.granted) (sym here)
         (subst (λ (mib : Mib). IsGrant place entry.sfn mib entry.sib1 reading.granted) (sym (ap (λ (e : Entry). e.mib) whole)) granted);
+    block = subst (λ (p : Place). IsBlock p entry.sfn entry.mib entry.sib1 reading.block.items) (sym here)
+        (subst (λ (mib : Mib). IsBlock place entry.sfn mib entry.sib1 reading.block.items) (sym (ap (λ (e : Entry). e.mib) whole)) carried);
   }
     where
       here : place_of entry ≡ place

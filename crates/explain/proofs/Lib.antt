@@ -14,5 +14,6 @@ pub mod Beside
 pub mod Deciding
 pub mod OneFrame
 pub mod Granted
+pub mod Blocks
 pub mod OneRead
 pub mod Valid

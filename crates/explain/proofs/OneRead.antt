@@ -8,6 +8,7 @@ use Rattle.explain.specs.Receiver.{hits_by, place_by}
 use Rattle.explain.specs.Entries.{place_of}
 use Rattle.explain.specs.Readings.{IsFirstAt, IsOneReading}
 use Rattle.explain.proofs.Granted.{one_grant_of}
+use Rattle.explain.proofs.Blocks.{one_block_for}
 
 -- at most one hit is the first that gives a place
 one_first : (place : Hit → Place) (hits : List Hit) (decoded : Place) (a b : Hit) → IsFirstAt place hits decoded a → IsFirstAt place hits decoded b → a ≡ b
@@ -28,4 +29,6 @@ one_read receiver recording entry a b p q =
     let hit = one_first (place_by receiver.carrier recording) (hits_by receiver.carrier recording) (place_of entry) a.hit b.hit p.hit q.hit in
     let sums = p.sums ∙ sym q.sums in
     let granted = one_grant_of receiver recording (place_of entry) entry.sfn entry.mib entry.sib1 a.granted b.granted p.granted q.granted in
-    ap (λ h. record a { hit = h }) hit ∙ ap (λ s. record a { hit = b.hit; sums = s }) sums ∙ ap (λ g. record b { granted = g }) granted
+    let block = one_block_for receiver recording (place_of entry) entry.sfn entry.mib entry.sib1 a.block.items b.block.items p.block q.block in
+    ap (λ h. record a { hit = h }) hit ∙ ap (λ s. record a { hit = b.hit; sums = s }) sums ∙ ap (λ g. record b { granted = g; block = a.block }) granted
+    ∙ ap (λ bits. record b { block = record { items = bits } }) block

@@ -1,5 +1,5 @@
 -- The content of a cell's frames, as relations that a receiver provides. (own)
-use Rattle.std.specs.Prelude.{ℕ, Option, Result}
+use Rattle.std.specs.Prelude.{ℕ, Bool, List, Option, Result}
 use Rattle.lte_types.specs.CellPlace.{Place}
 use Rattle.lte_types.specs.Frames.{Frames}
 use Rattle.lte_types.specs.declared.mib.Mib.{Mib}
@@ -32,3 +32,8 @@ Attempting = ℕ → Attempt → Type 0
 -- format indicator and grant with which the system information was read, or none
 abbrev pub Granting : Type 1
 Granting = Place → ℕ → Mib → Result Sib1 Sib1Reason → Option (ℕ × Grant) → Type 0
+
+-- a relation between a cell's place, its first system frame number, its MIB, its system information, and the bits of
+-- the transport block that carried the system information, or no bits
+abbrev pub Carrying : Type 1
+Carrying = Place → ℕ → Mib → Result Sib1 Sib1Reason → List Bool → Type 0

@@ -10,4 +10,5 @@ pub mod Received
 pub mod Laws
 pub mod Deciding
 pub mod Grant
+pub mod Blocks
 pub mod Readings

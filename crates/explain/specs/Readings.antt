@@ -8,10 +8,11 @@ use Rattle.lte_types.specs.CellPlace.{Place}
 use Rattle.lte_types.specs.Frames.{Frames, frames_from}
 use Rattle.pbch.specs.Master.{sums_at}
 use Rattle.explain.specs.declared.readings.Reading.{Reading}
-use Rattle.explain.specs.Decoded.{Granting}
+use Rattle.explain.specs.Decoded.{Granting, Carrying}
 use Rattle.explain.specs.Receiver.{Receiver, one_port_receiver, hits_by, place_by, sums_by}
 use Rattle.explain.specs.Entries.{place_of, frames_of}
 use Rattle.explain.specs.Grant.{IsGrantFor}
+use Rattle.explain.specs.Blocks.{IsBlockFor}
 
 -- `hit` is the first in `hits` whose place is `wanted`, where `place` gives a hit's place
 pub record IsFirstAt (place : Hit → Place) (hits : List Hit) (wanted : Place) (hit : Hit) : Type 0 where
@@ -20,13 +21,14 @@ pub record IsFirstAt (place : Hit → Place) (hits : List Hit) (wanted : Place) 
   pub decodes : place hit ≡ wanted
   pub first : (h : ℕ) (other : Hit) → h < at → slice_get hits h ≡ Some other → place other ≢ wanted
 
--- `reading` is how `entry` was read from `hits`. `summed` gives the combined soft values for frames, and `IsGrant` the
--- control format indicator and the grant for system information.
-pub record IsReadingBy (summed : Place → Frames → List (List ℤ)) (IsGrant : Granting) (place : Hit → Place)
-    (hits : List Hit) (entry : Entry) (reading : Reading) : Type 0 where
+-- `reading` is how `entry` was read from `hits`. `summed` gives the combined soft values for frames, `IsGrant` the
+-- control format indicator and the grant for system information, and `IsBlock` the transport block that carried it.
+pub record IsReadingBy (summed : Place → Frames → List (List ℤ)) (IsGrant : Granting) (IsBlock : Carrying)
+    (place : Hit → Place) (hits : List Hit) (entry : Entry) (reading : Reading) : Type 0 where
   pub hit : IsFirstAt place hits (place_of entry) reading.hit
   pub sums : reading.sums ≡ summed (place_of entry) (frames_of entry)
   pub granted : IsGrant (place_of entry) entry.sfn entry.mib entry.sib1 reading.granted
+  pub block : IsBlock (place_of entry) entry.sfn entry.mib entry.sib1 reading.block.items
 
 -- `all` gives the combined soft values of `count` frames from frame j, for each phase of the first frame
 abbrev pub AreSums : (Frames → List (List ℤ)) → ℕ → ℕ → List (List (List ℤ)) → Type 0
@@ -37,7 +39,8 @@ AreSums sums count j all = (phase : ℕ) → phase + count ≤ 4 → sums_at all
 -- how a receiver read an entry from a list of hits
 abbrev pub IsReadingOf : Receiver → List Sample → List Hit → Entry → Reading → Type 0
 IsReadingOf receiver recording =
-    IsReadingBy (sums_by receiver recording) (IsGrantFor receiver recording) (place_by receiver.carrier recording)
+    IsReadingBy (sums_by receiver recording) (IsGrantFor receiver recording) (IsBlockFor receiver recording)
+    (place_by receiver.carrier recording)
 
 -- how a receiver read an entry from the recording's hits
 abbrev pub IsReadingFor : Receiver → List Sample → Entry → Reading → Type 0

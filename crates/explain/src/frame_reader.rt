@@ -3,6 +3,7 @@
 ghost use Rattle.std.specs.Prelude.{◌≡◌, ◌≤◌, length};
 ghost use Rattle.explain.specs.Frame.{IsWhole};
 ghost use Rattle.explain.specs.Grant.{IsGrantFor};
+ghost use Rattle.explain.specs.Blocks.{IsBlockFor};
 ghost use Rattle.explain.specs.Receiver.{Receiver, scheme_of};
 ghost use Rattle.explain.specs.System.{IsSystemFor};
 
@@ -40,10 +41,13 @@ pub trait FrameReader {
         ensures values { result ≡ receiver.broadcast recording.now place j }
         ensures length { length result ≡ receiver.count };
 
-    /// Returns the system information of `cell`, and the control format indicator and grant with which it was read.
+    /// Returns the system information of `cell`, and the control format indicator, grant and transport block with which
+    /// it was read.
     fn system_of(&self, recording: &Recording, cell: &NumberedCell, work: &mut Decoders) -> Informed
         ensures sib1 { IsSystemFor receiver recording.now cell.now.place cell.now.sfn cell.now.master.ports
             cell.now.master.mib result.sib1 }
         ensures granted { IsGrantFor receiver recording.now cell.now.place cell.now.sfn cell.now.master.mib
-            result.sib1 result.granted };
+            result.sib1 result.granted }
+        ensures block { IsBlockFor receiver recording.now cell.now.place cell.now.sfn cell.now.master.mib
+            result.sib1 result.block.items };
 }

@@ -22,6 +22,7 @@ ghost use Rattle.pbch.specs.Master.{master_at};
 ghost use Rattle.explain.specs.Receiver.{HasRoom, place_by, sums_by};
 ghost use Rattle.explain.specs.System.{IsSystemFor};
 ghost use Rattle.explain.specs.Grant.{IsGrantFor};
+ghost use Rattle.explain.specs.Blocks.{IsBlockFor};
 ghost use Rattle.explain.specs.Entries.{Adds, AddsHit, AreEntriesFor, IsListOfHits, IsListFor};
 ghost use Rattle.explain.specs.Readings.{IsFirstAt, IsReadingOf, IsReadingFor, AreSums, AddsBeside, KeepsReadings};
 ghost use Rattle.explain.specs.Places.{is_met};
@@ -38,6 +39,7 @@ use pbch::Master;
 use pss_search::{hits, hits_are_right};
 use sample_file::Recording;
 use sib1_reader::Decoders;
+use turbo_dec::Block;
 
 // A hit, the place of its cell, and the MIBs in the first of the cell's frames that carry any.
 #[derive(Drop)]
@@ -232,7 +234,7 @@ fn add_phase<F: FrameReader>(
     let master = found.masters.at[phase as usize];
     match master {
         Some(master) => {
-            let (entry, granted) = entry_of(
+            let (entry, granted, block) = entry_of(
                 reader,
                 recording,
                 found.place,
@@ -244,6 +246,7 @@ fn add_phase<F: FrameReader>(
                 hit: found.hit,
                 sums: found.masters.sums[phase as usize],
                 granted,
+                block,
             };
             add_entry(entry, reading, &mut notes.readings, list);
         }
@@ -262,7 +265,8 @@ fn frames_at(masters: &Masters, phase: u8) -> Frames
     }
 }
 
-// Returns the entry for a MIB, and the control format indicator and grant with which its system information was read.
+// Returns the entry for a MIB, and the control format indicator, grant and transport block with which its system
+// information was read.
 fn entry_of<F: FrameReader>(
     reader: &F,
     recording: &Recording,
@@ -270,10 +274,11 @@ fn entry_of<F: FrameReader>(
     frames: Frames,
     master: Master,
     work: &mut Decoders,
-) -> (Entry, Option<(Cfi, Grant)>)
+) -> (Entry, Option<(Cfi, Grant)>, Block)
     ensures entry { result.0 ≡ entry_of_master place frames master result.0.sib1 }
     ensures system { IsSystemFor F.receiver recording.now place result.0.sfn master.ports master.mib result.0.sib1 }
     ensures granted { IsGrantFor F.receiver recording.now place result.0.sfn master.mib result.0.sib1 result.1 }
+    ensures block { IsBlockFor F.receiver recording.now place result.0.sfn master.mib result.0.sib1 result.2.items }
 {
     let sfn = frames.first_number(master.mib.upper);
     let cell = NumberedCell { place, sfn, master };
@@ -290,7 +295,7 @@ fn entry_of<F: FrameReader>(
         cost: master.cost,
         sib1: informed.sib1,
     };
-    (entry, informed.granted)
+    (entry, informed.granted, informed.block)
 }
 
 // Adds an entry to the list, and its reading at the same index of the parallel list. Adds nothing if the entry's cell
@@ -302,7 +307,7 @@ fn add_entry(entry: Entry, reading: Reading, readings: &mut Readings, list: &mut
     ensures both { AddsBeside entry reading list.old list.new readings.old readings.new }
 {
     match list.add(entry) {
-        Some(at) => readings.insert(at, reading.hit, reading.sums, reading.granted),
+        Some(at) => readings.insert(at, reading),
         None => {}
     }
 }

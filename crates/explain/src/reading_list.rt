@@ -6,9 +6,6 @@ ghost use Rattle.std.specs.Vec.{vec_capacity};
 ghost use Rattle.explain.specs.declared.readings.Reading.{Reading as ReadingValue};
 
 use crate::Reading;
-use dci::Grant;
-use lte_types::{Cfi, Hit};
-use pbch::WordSums;
 use std::alloc::{AllocError, Global};
 use std::marker::Model;
 
@@ -52,12 +49,11 @@ impl Readings {
     }
 
     /// Inserts an entry's reading at index `at`; the readings from `at` on move up by one. Does not allocate.
-    pub fn insert(&mut self, at: usize, hit: Hit, sums: WordSums, granted: Option<(Cfi, Grant)>)
+    pub fn insert(&mut self, at: usize, item: Reading)
         requires at { at ≤ length self.old }
         requires room { length self.old < 23040 }
-        ensures { self.new ≡ insert_at self.old at (record { hit = hit; sums = sums; granted = granted }) }
+        ensures { self.new ≡ insert_at self.old at item }
     {
-        let item = Reading { hit, sums, granted };
         match self.readings.insert(at, item) {
             Ok(()) => {}
             Err(_) => unreachable!(),

@@ -3,9 +3,10 @@
 use dci::Grant;
 use lte_types::{Cfi, Hit};
 use pbch::WordSums;
+use turbo_dec::Block;
 
-/// The reading of a listed entry: the hit, soft values and grant from which it was decoded. (own)
-#[derive(Clone, Copy)]
+/// The reading of a listed entry: the hit, soft values, grant and transport block from which it was decoded. (own)
+#[derive(Drop)]
 pub struct Reading {
     /// The first hit at the place of the entry's cell.
     pub hit: Hit,
@@ -13,4 +14,6 @@ pub struct Reading {
     pub sums: WordSums,
     /// The control format indicator and the grant with which system information was read; `None` if none was read.
     pub granted: Option<(Cfi, Grant)>,
+    /// The bits of the transport block that carried system information, without the CRC; no bits if none was read.
+    pub block: Block,
 }

@@ -4,13 +4,13 @@ ghost use Rattle.std.specs.Prelude.{◌≡◌, ◌<◌, length};
 ghost use Rattle.soft_bits.specs.Front.{HaveOneFront};
 ghost use Rattle.explain.specs.Frame.{IsWhole, frame_at, seen_slot, broadcast_slot as broadcast_slot_of};
 ghost use Rattle.explain.specs.Receiver.{broadcast_by, subframes_by};
-ghost use Rattle.sib1_reader.specs.Attempt.{IsAttempt};
+ghost use Rattle.sib1_reader.specs.Attempt.{IsAttempt, IsAttemptBlock};
 
 use crate::frame::{broadcast_front, symbols_of};
 use lte_types::{CellPlace, Mib};
 use pbch::{Received, received};
 use sample_file::Recording;
-use sib1_reader::{Attempt, Decoders, attempt_in};
+use sib1_reader::{Decoded, Decoders, decoded_in};
 use soft_bits::ReadSlot;
 
 /// Returns demodulated slot `number`, 0 to 19, in frame `j` of the cell at `place`. The frame lies within the
@@ -43,19 +43,22 @@ pub fn received_in<S: ReadSlot>(recording: &Recording, place: CellPlace, j: u8) 
     received(&slot)
 }
 
-/// Returns the attempt to read system information in subframe 5 of frame `j` of a cell. The frame lies within the
-/// recording.
+/// Returns the attempt to read system information in subframe 5 of frame `j` of a cell, and the transport block that
+/// carried it. The frame lies within the recording.
 pub(crate) fn attempt_at<S: ReadSlot>(
     recording: &Recording,
     place: CellPlace,
     j: u8,
     mib: Mib,
     work: &mut Decoders,
-) -> Attempt
+) -> Decoded
     requires { IsWhole recording.now place.start j }
-    ensures { IsAttempt (subframes_by S.carrier S.values_by recording.now place j mib.duration mib.resource) result }
+    ensures attempt { IsAttempt (subframes_by S.carrier S.values_by recording.now place j mib.duration mib.resource)
+        result.attempt }
+    ensures block { IsAttemptBlock (subframes_by S.carrier S.values_by recording.now place j mib.duration mib.resource)
+        result.attempt result.block.items }
 {
     let first: S = slot_of(recording, place, j, 10);
     let second: S = slot_of(recording, place, j, 11);
-    attempt_in(&first, &second, mib, work)
+    decoded_in(&first, &second, mib, work)
 }

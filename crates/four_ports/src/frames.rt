@@ -54,9 +54,6 @@ impl FrameReader for FourPorts {
         cell: &NumberedCell,
         work: &mut Decoders,
     ) -> Informed {
-        Informed {
-            sib1: Err(Sib1Reason::NotOnePort(4)),
-            granted: None,
-        }
+        Informed::not_read(Sib1Reason::NotOnePort(4))
     }
 }

@@ -49,10 +49,7 @@ impl FrameReader for ExtendedPrefix {
         cell: &NumberedCell,
         work: &mut Decoders,
     ) -> Informed {
-        Informed {
-            sib1: Err(Sib1Reason::LongPrefix),
-            granted: None,
-        }
+        Informed::not_read(Sib1Reason::LongPrefix)
     }
 }
 

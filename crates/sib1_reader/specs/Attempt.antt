@@ -1,5 +1,5 @@
 -- One attempt to read SystemInformationBlockType1 in subframe 5 of one frame (the order of the refusals is own).
-use Rattle.std.specs.Prelude.{◌≡◌, ℕ, Option, None, Some, Result, Ok, Err}
+use Rattle.std.specs.Prelude.{◌≡◌, ℕ, Bool, List, [], Option, None, Some, Result, Ok, Err}
 use Rattle.lte_types.specs.declared.sib1.Sib1.{Sib1}
 use Rattle.lte_types.specs.declared.sib1_reason.Sib1Reason.{Sib1Reason}
 use Rattle.dci.specs.declared.grant.Grant.{Grant}
@@ -7,7 +7,7 @@ use Rattle.pcfich.specs.Indicator.{IsIndicator}
 use Rattle.sib1_reader.specs.declared.reading.Attempt.{Attempt}
 use Rattle.sib1_reader.specs.Subframe.{Subframe}
 use Rattle.sib1_reader.specs.Control.{Grants}
-use Rattle.sib1_reader.specs.Block.{Decodes}
+use Rattle.sib1_reader.specs.Block.{Decodes, IsAnswerBlock}
 
 -- `grant` is decoded from the PDCCH candidate, and `answer` from the soft values in the resource blocks that it assigns
 pub record IsGranted (values : Subframe) (indicator : ℕ) (grant : Grant) (answer : Result Sib1 Sib1Reason) :
@@ -37,6 +37,16 @@ granted_with indicator None answer = None
 -- the control format indicator and the grant with which an attempt read the fields; none if no fields were read
 abbrev pub granted_by : Attempt → Option (ℕ × Grant)
 granted_by attempt = granted_with attempt.cfi attempt.grant attempt.answer
+
+-- `bits` are the transport block of the grant, which carries the fields in `answer`; there are no bits without fields
+abbrev pub IsBlockBy : Subframe → ℕ → Option Grant → Result Sib1 Sib1Reason → List Bool → Type 0
+IsBlockBy values indicator (Some grant) answer bits =
+    IsAnswerBlock (values.shared indicator grant.start grant.blocks) grant answer bits
+IsBlockBy values indicator None answer bits = bits ≡ []
+
+-- `bits` are the transport block that carried the fields of an attempt; there are no bits without fields
+abbrev pub IsAttemptBlock : Subframe → Attempt → List Bool → Type 0
+IsAttemptBlock values attempt bits = IsBlockBy values attempt.cfi attempt.grant attempt.answer bits
 
 -- `answer` is the result of the attempt to read system information from the soft values of subframe 5
 pub record Reads (values : Subframe) (answer : Result Sib1 Sib1Reason) : Type 0 where

@@ -1,5 +1,5 @@
 -- The transport block that a grant assigns, decoded from the PDSCH soft values (TS 36.212 section 5.3.2).
-use Rattle.std.specs.Prelude.{◌≡◌, ◌+◌, Bool, List, ℤ, Option, None, Some, Result, Err}
+use Rattle.std.specs.Prelude.{◌≡◌, ◌+◌, Bool, List, [], ℤ, Option, None, Some, Result, Ok, Err}
 use Rattle.lte_types.specs.declared.sib1.Sib1.{Sib1}
 use Rattle.lte_types.specs.declared.sib1_reason.Sib1Reason.{Sib1Reason}
 use Rattle.lte_types.specs.declared.sib1_reason.Sib1Reason.TheVariants.{NotDecoded}
@@ -28,3 +28,8 @@ pub record BlockSays (values : List ℤ) (grant : Grant) (answer : Result Sib1 S
 abbrev pub Decodes : List ℤ → Grant → Result Sib1 Sib1Reason → Type 0
 Decodes values grant (Err NotDecoded) = IsBlock values grant None
 Decodes values grant answer = BlockSays values grant answer
+
+-- `bits` are the transport block that carries the SIB1 fields in `answer`; there are no bits without fields
+abbrev pub IsAnswerBlock : List ℤ → Grant → Result Sib1 Sib1Reason → List Bool → Type 0
+IsAnswerBlock values grant (Ok fields) bits = IsBlock values grant (Some bits)
+IsAnswerBlock values grant (Err reason) bits = bits ≡ []

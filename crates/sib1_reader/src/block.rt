@@ -9,7 +9,7 @@ ghost use Rattle.turbo_code.specs.Table.{IsRow};
 ghost use Rattle.turbo_code.specs.Reading.{summed};
 ghost use Rattle.turbo_dec.specs.Decoder.{IsSmall};
 ghost use Rattle.pdsch.specs.Values.{shared_values_by};
-ghost use Rattle.sib1_reader.specs.Block.{IsBlock, Decodes};
+ghost use Rattle.sib1_reader.specs.Block.{IsBlock, Decodes, IsAnswerBlock};
 
 use dci::Grant;
 use lte_types::{Cfi, Sib1, Sib1Reason};
@@ -18,27 +18,29 @@ use soft_bits::ReadSlot;
 use turbo_code::{Combined, Row, combine, row_of};
 use turbo_dec::{Block, Work, decode};
 
-/// Returns the fields of the transport block that `grant` assigns, or the reason why there are none, as `fields_of`
-/// does. `first` and `second` are slots 10 and 11 of one cell, and `cfi` is 2 or 3.
+/// Returns what `fields_with_block` does for the transport block that `grant` assigns. `first` and `second` are slots 10
+/// and 11 of one cell, and `cfi` is 2 or 3.
 pub(crate) fn fields_in<S: ReadSlot>(
     first: &S,
     second: &S,
     cfi: Cfi,
     grant: &Grant,
     turbo: &mut Work,
-) -> Result<Sib1, Sib1Reason>
+) -> (Result<Sib1, Sib1Reason>, Block)
     requires first { (S.seen_as first.now).number ≡ 10 }
     requires second { (S.seen_as second.now).number ≡ 11 }
     requires cell { (S.seen_as second.now).identity ≡ (S.seen_as first.now).identity }
     requires cfi { 2 ≤ cfi }
     requires grant { IsGrant grant.now }
     ensures answer { Decodes (shared_values_by S.carrier S.values_by (S.seen_as first.now) (S.seen_as second.now)
-        cfi grant.now.start grant.now.blocks) grant.now result }
-    ensures valid { IfOk result IsValid }
+        cfi grant.now.start grant.now.blocks) grant.now result.0 }
+    ensures block { IsAnswerBlock (shared_values_by S.carrier S.values_by (S.seen_as first.now) (S.seen_as second.now)
+        cfi grant.now.start grant.now.blocks) grant.now result.0 result.1.items }
+    ensures valid { IfOk result.0 IsValid }
 {
     let mut values = [0; MOST_VALUES];
     let count = pdsch::values(first, second, cfi, grant, &mut values);
-    fields_of(&values[..count], grant, turbo)
+    fields_with_block(&values[..count], grant, turbo)
 }
 
 /// Returns the SIB1 fields decoded from the PDSCH soft values, at most 5,760 from -127 to 127. Fails with `NotDecoded`
@@ -50,9 +52,29 @@ pub fn fields_of(values: &[i16], grant: &Grant, turbo: &mut Work) -> Result<Sib1
     ensures answer { Decodes values.now grant.now result }
     ensures valid { IfOk result IsValid }
 {
+    fields_with_block(values, grant, turbo).0
+}
+
+// Returns the SIB1 fields as `fields_of` does, with the bits of the transport block that carries them; no bits without
+// fields.
+fn fields_with_block(
+    values: &[i16],
+    grant: &Grant,
+    turbo: &mut Work,
+) -> (Result<Sib1, Sib1Reason>, Block)
+    requires count { length values.now ≤ 5760 }
+    requires magnitudes { AllWithin 127 values.now }
+    requires grant { IsGrant grant.now }
+    ensures answer { Decodes values.now grant.now result.0 }
+    ensures block { IsAnswerBlock values.now grant.now result.0 result.1.items }
+    ensures valid { IfOk result.0 IsValid }
+{
     match block_of(values, grant, turbo) {
-        Some(block) => sib1::read(block.as_slice()),
-        None => Err(Sib1Reason::NotDecoded),
+        Some(block) => match sib1::read(block.as_slice()) {
+            Ok(fields) => (Ok(fields), block),
+            Err(reason) => (Err(reason), Block::new()),
+        },
+        None => (Err(Sib1Reason::NotDecoded), Block::new()),
     }
 }
 

@@ -14,4 +14,4 @@ pub use block::{block_of, fields_of};
 pub use control::{grant_of, granted};
 pub use decoders::Decoders;
 pub use laws::one_answer;
-pub use reading::{Attempt, attempt_in, read};
+pub use reading::{Attempt, Decoded, attempt_in, decoded_in, read};

@@ -4,7 +4,7 @@ use crate::control::mib_of;
 use crate::seen::{SlotRows, subframe_of};
 use dci::Grant;
 use lte_types::{Duration, Resource, Sib1Reason};
-use sib1_reader::{Attempt, Decoders, attempt_in, one_answer, read};
+use sib1_reader::{Attempt, Decoders, attempt_in, decoded_in, one_answer, read};
 use soft_bits::Slot;
 use std::process::Abort;
 use std::test::Fail;
@@ -224,6 +224,35 @@ const FULL_GRANT: Grant = Grant {
     rv: 2,
     size: 224,
 };
+
+// The bytes of the plain SIB1's transport block.
+const PLAIN_BYTES: [u8; 15] = [
+    0x40, 0x40, 0x04, 0x03, 0x00, 0x01, 0x00, 0x00, 0x00, 0x18, 0x00, 0x00, 0x00, 0x00, 0x00,
+];
+
+// Returns whether `block` has the bits of `bytes`, the highest bit of each byte first.
+fn has_bytes(block: &[bool], bytes: &[u8; 15]) -> bool {
+    for i in 0..120 {
+        let bit = bytes[i / 8] >> (7 - i % 8) & 1 == 1;
+        if block.get(i) != Some(&bit) {
+            return false;
+        }
+    }
+    block.len() == 120
+}
+
+#[test]
+fn the_block_of_the_fields_is_kept(rt: HostRuntime) -> Result<(), Fail> {
+    let mut work = Decoders::new(rt.alloc())?;
+    let mib = mib_of(&rt, Duration::Normal, Resource::One);
+    let (first, second) = slots_of(&rt, PLAIN_CONTROL, PLAIN_BLOCK);
+    let decoded = decoded_in(&first, &second, mib, &mut work);
+    assert!(rt; has_bytes(decoded.block.as_slice(), &PLAIN_BYTES));
+    let (first, second) = slots_of(&rt, PLAIN_CONTROL, OTHER_MESSAGE);
+    let decoded = decoded_in(&first, &second, mib, &mut work);
+    assert!(rt; decoded.block.is_empty());
+    Ok(())
+}
 
 #[test]
 fn the_fields_are_read(rt: HostRuntime) -> Result<(), Fail> {

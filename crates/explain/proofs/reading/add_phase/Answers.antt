@@ -9,6 +9,7 @@ use Rattle.explain.specs.Masters.{entry_of, AddsPhase}
 use Rattle.explain.specs.Receiver.{place_by, sums_by}
 use Rattle.explain.specs.System.{IsSystemFor}
 use Rattle.explain.specs.Grant.{IsGrantFor}
+use Rattle.explain.specs.Blocks.{IsBlockFor}
 use Rattle.explain.specs.Readings.{IsReadingOf}
 use Rattle.explain.proofs.Beside.{keeps, reads_so}
 use Rattle.explain.proofs.Kept.{adds_none}
@@ -38,9 +39,9 @@ returns-in-Some-clause-readings g c hits first =
     let whole = c.entry_of-entry.ensures.entry ∙ ap (λ (f : Frames). entry_of place f c.in-Some.master entry.sib1) c.frames_at-frames.ensures in
     keeps (IsReadingOf g.F.FrameReader.receiver r hits) entry _ c.args.list.now c.add_entry.new.list c.args.notes.now.readings c.add_entry.new.readings
     c.add_entry.ensures.both
-    (reads_so (sums_by g.F.FrameReader.receiver r) (IsGrantFor g.F.FrameReader.receiver r) (place_by g.F.FrameReader.receiver.carrier r) hits place (frames_from m.frames m.frame c.args.phase) c.in-Some.master entry _ whole first
+    (reads_so (sums_by g.F.FrameReader.receiver r) (IsGrantFor g.F.FrameReader.receiver r) (IsBlockFor g.F.FrameReader.receiver r) (place_by g.F.FrameReader.receiver.carrier r) hits place (frames_from m.frames m.frame c.args.phase) c.in-Some.master entry _ whole first
     (get_or_default m.sums c.args.phase c.index-found-phase-in-Some.result [] (omega arith) ∙ c.requires.sums c.args.phase (omega (arith, frames.period)))
-    c.entry_of-entry.ensures.granted)
+    c.entry_of-entry.ensures.granted c.entry_of-entry.ensures.block)
 
 pub returns-in-None-clause-adds : goal.returns-in-None-clause-adds
 returns-in-None-clause-adds g c =
