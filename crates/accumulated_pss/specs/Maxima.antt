@@ -18,8 +18,8 @@ distance t u = min (steps t u) (steps u t)
 
 -- ---- maxima
 
--- Position `t` is a maximum: its sum is not 0, no position at a distance of at most 9 has a greater sum, and none of the
--- 9 positions before it has an equal sum.
+-- Position `t` is a maximum: its sum is not 0, no position at a distance of at most 9 has a greater sum, and none of
+-- the 9 positions before it has an equal sum.
 pub record IsMaximum (row : List ℕ) (t : ℕ) : Type 0 where
   pub position : IsPosition t
   pub positive : 0 < sum_at row t

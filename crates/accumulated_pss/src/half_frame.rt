@@ -10,7 +10,7 @@ use lte_types::LEAST_SAMPLES;
 use sample_file::Recording;
 use std::alloc::{AllocError, Global};
 
-// Returns 57,600 samples from sample `start`; 0 past the end.
+// Returns 57,600 samples, the minimum of a recording, from sample `start`; 0 past the end.
 pub(crate) fn window(
     alloc: Global,
     samples: &[Sample],

@@ -14,8 +14,8 @@ ghost use Rattle.accumulated_pss.specs.Laws.{TestIsRight, ListIsRight, ListIsInO
 pub use choose::candidates;
 pub use sums::{Accumulated, accumulate, half_frames};
 
-/// A law: each of the counted half-frames is complete, and no other. A ratio is below 1, and a row holds the sums of the
-/// ratios at the positions. The samples that the half-frames cover decide the rows.
+/// A law: each of the counted half-frames is complete, and no other. A ratio is below 1, and a row holds the sums of
+/// the ratios at the positions. The samples that the half-frames cover decide the rows.
 pub fn sums_are_right()
     ensures complete { HalfFramesAreComplete }
     ensures below { RatiosAreBelowOne }

@@ -83,8 +83,8 @@ impl Accumulated {
         self.row(n2)[t as usize - FIRST_POSITION]
     }
 
-    /// Returns whether position `t` precedes position `u`, 137 to 9,736, for the primary signal `n2`, 0 to 2: its sum is
-    /// greater, or equal and `t` is earlier. (own)
+    /// Returns whether position `t` precedes position `u`, both 137 to 9,736, for the primary signal `n2`, 0 to 2: its
+    /// sum is greater, or equal and `t` is earlier. (own)
     pub fn precedes(&self, n2: u8, t: u32, u: u32) -> bool
         requires n2 { n2 ≤ 2 }
         requires t { IsPosition t }
@@ -157,7 +157,7 @@ impl Accumulated {
     }
 }
 
-// Advances a sweep by one position.
+// Advances a sweep, which begins at position 128, by one position.
 fn skip(sweep: &mut Sweep)
     requires { sweep.old.place < end_place }
     ensures recording { sweep.new.recording ≡ sweep.old.recording }
