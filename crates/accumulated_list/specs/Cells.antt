@@ -33,8 +33,8 @@ cell_with halves n2 t sum found = record {
 abbrev pub cell_at : List Sample → ℕ → ℕ → ℕ → Detection → DetectedCell
 cell_at recording halves n2 t found = cell_with halves n2 t (accumulated recording halves n2 t) found
 
--- `cell` is detected in the first `halves` half-frames: its position is a candidate for its primary signal, and the other
--- fields are those of the detection there
+-- `cell` is detected in the first `halves` half-frames: its position is a candidate for its primary signal, and the
+-- other fields are those of the detection there
 pub record IsDetected (recording : List Sample) (halves : ℕ) (cell : DetectedCell) : Type 0 where
   pub found : Detection
   pub member : cell.n2 ≤ 2
@@ -44,8 +44,8 @@ pub record IsDetected (recording : List Sample) (halves : ℕ) (cell : DetectedC
 
 -- ---- the list
 
--- `cell` is an echo of `other`: they have one identity, their positions are at most 137 apart, and the position of `other`
--- precedes: it has the greater sum, or an equal sum and is earlier
+-- `cell` is an echo of `other`: they have one identity, their positions are at most 137 apart, and the position of
+-- `other` precedes: it has the greater sum, or an equal sum and is earlier
 pub record IsEcho (recording : List Sample) (halves : ℕ) (other cell : DetectedCell) : Type 0 where
   pub identity : other.id ≡ cell.id
   pub near : distance other.position cell.position ≤ 137

@@ -32,7 +32,7 @@ pub struct DetectedCell {
     pub matches: u8,
     /// The mean ratio of peak to energy and power over the half-frames, in thousandths, rounded down, 0 to 999.
     pub ratio: u16,
-    /// The power of the cell's 24 pilots in a slot, in the unit of a demodulated value's square.
+    /// About the energy of 24 received reference signals of the cell, in the unit of a demodulated value's square.
     pub power: u64,
 }
 

@@ -1,4 +1,5 @@
-//! The list of cells that are detected over many half-frames: candidates of the primary signals at which the secondary signal is detected, without echoes.
+//! The list of cells that are detected over many half-frames: candidates of the primary signals at which the secondary
+//! signal is detected, without echoes.
 //! Tests: the crate `accumulated_tests`.
 #![tactic(auto)]
 
@@ -11,8 +12,8 @@ ghost use Rattle.accumulated_list.specs.Laws.{OnlyOneList, CoveredSamplesDecide,
 pub use cell::DetectedCell;
 pub use listing::list_accumulated;
 
-/// A law: the covered samples decide the list, and there is only one. Cells with one identity are more than 137 positions
-/// apart, each has at least 93 matches and a maximum, and there are at most 192.
+/// A law: the covered samples decide the list, and there is only one. Cells with one identity are more than 137
+/// positions apart, each has at least 93 matches at a maximum, and there are at most 192.
 pub fn list_is_right()
     ensures only { OnlyOneList }
     ensures covered { CoveredSamplesDecide }
