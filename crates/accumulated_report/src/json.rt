@@ -21,6 +21,7 @@ pub fn json_of_accumulated(
     list_json(alloc, &list, halves)
 }
 
+// Returns the JSON object with a list of cells and the number of half-frames.
 fn list_json(alloc: Global, list: &str, halves: usize) -> Result<String, AllocError>
     ensures { IfOk result (λ text. string_bytes text ≡ list_of list.now halves) }
 {
@@ -58,6 +59,7 @@ fn cell_json(alloc: Global, cell: &DetectedCell) -> Result<String, AllocError>
     Ok(object)
 }
 
+// Returns the start of a cell's object: frame start, cell identity, number of matches and power.
 fn front_part(
     alloc: Global,
     start: u32,
@@ -70,6 +72,7 @@ fn front_part(
     format!(in alloc; "{{\"at\":{start},\"identity\":{id},\"matches\":{matches},\"power\":{power}")
 }
 
+// Returns the end of a cell's object: mean ratio, subframe and position.
 fn back_part(alloc: Global, ratio: u16, subframe: u8, t: u32) -> Result<String, AllocError>
     ensures { IfOk result (λ part. string_bytes part ≡ back_of ratio subframe t) }
 {

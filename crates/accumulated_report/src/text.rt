@@ -23,6 +23,7 @@ pub fn text_of_accumulated(
     Ok(text)
 }
 
+// Returns the line with the number of cells and of half-frames.
 fn accumulated_head(alloc: Global, count: usize, halves: usize) -> Result<String, AllocError>
     ensures { IfOk result (λ line. string_bytes line ≡ head_of count halves) }
 {
@@ -52,6 +53,7 @@ fn cell_line(alloc: Global, cell: &DetectedCell) -> Result<String, AllocError>
     Ok(line)
 }
 
+// Returns the start of a cell's line: position, cell identity, subframe and frame start.
 fn place_part(
     alloc: Global,
     t: u32,
@@ -64,6 +66,7 @@ fn place_part(
     format!(in alloc; "{t} {id} {subframe} {start}")
 }
 
+// Returns the end of a cell's line: number of matches, mean ratio and power.
 fn support_part(alloc: Global, matches: u8, ratio: u16, power: u64) -> Result<String, AllocError>
     ensures { IfOk result (λ part. string_bytes part ≡ support_of matches ratio power) }
 {
