@@ -14,8 +14,8 @@ NONE = (0, 0, 0, 137)
 # of each recording the level, seed and constant of the noise, the cells, and the number of half-frames
 RECORDINGS = (
     # silence, a constant, noise
-    (0, 1, 0, (), 1),
-    (0, 2, 12_345, (), 1),
+    (0, 1, 0, (), 2),
+    (0, 2, 12_345, (), 2),
     (300, 3, 0, (), 2),
     # two cells, one of which begins with subframe 5, in noise; over two half-frames, and over one
     (250, 4, 0, ((1, 301, 0, 4_321), (1, 8, 5, 9_000)), 5),

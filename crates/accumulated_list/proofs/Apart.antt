@@ -1,15 +1,19 @@
 -- Two listed cells with one identity are more than 137 positions apart, and what supports a listed cell.
-use Rattle.std.proofs.Common.{◌≡◌, ◌∙◌, inl, inr, ℕ, ◌<◌, ◌≤◌, List, true, min, arith, ap, sym, subst}
+use Rattle.std.proofs.Common.{◌≡◌, ◌∙◌, inl, inr, ℕ, zero, suc, ◌*◌, ◌/◌, ◌<◌, ◌≤◌, List, true, min, arith, ap, sym, subst}
+use Rattle.std.proofs.lemmas.Nat.{div_below}
 use Rattle.std.proofs.lemmas.Bool.{cases_lt}
 use Rattle.cs_num.specs.declared.Sample.{Sample}
-use Rattle.accumulated_pss.specs.Sums.{row_of}
-use Rattle.accumulated_pss.specs.Maxima.{distance, precedes, steps}
+use Rattle.finite.proofs.Sums.{total_below_none}
+use Rattle.accumulated_pss.specs.Sums.{accumulated, ratio, row_of}
+use Rattle.accumulated_pss.specs.Maxima.{IsMaximum, distance, precedes, steps}
 use Rattle.accumulated_pss.proofs.Order.{precedes-either}
+use Rattle.accumulated_pss.proofs.Ratios.{accumulated-below}
+use Rattle.accumulated_pss.proofs.Rows.{rows_hold_sums}
 use Rattle.accumulated_sss.specs.declared.detecting.Detection.{Detection}
 use Rattle.accumulated_sss.specs.Detection.{IsDetection}
 use Rattle.accumulated_sss.proofs.Detections.{only_one_detection}
 use Rattle.accumulated_list.specs.declared.cell.DetectedCell.{DetectedCell}
-use Rattle.accumulated_list.specs.Cells.{IsDetected, IsListed, cell_at}
+use Rattle.accumulated_list.specs.Cells.{IsDetected, IsListed, cell_at, mean_ratio}
 use Rattle.accumulated_list.specs.Laws.{CellsAreApart, CellsAreSupported}
 use Rattle.accumulated_list.proofs.EchoTest.{same_signal}
 
@@ -60,8 +64,28 @@ cells_are_apart recording halves a b p q e differ = elim (cases_lt 137 (distance
   ])
 ]
 
+-- without half-frames there is no maximum
+some_half_frame : (recording : List Sample) (halves n2 t : ℕ) → IsMaximum (row_of recording halves n2) t → 0 < halves
+some_half_frame recording zero n2 t is =
+    let none = rows_hold_sums recording 0 n2 t is.position ∙ total_below_none (ratio recording n2 t) in
+    let positive = is.positive in
+    omega (arith, none, positive)
+some_half_frame recording (suc halves) n2 t is = omega arith
+
+small_mean : (halves sum : ℕ) → 0 < halves → sum ≤ halves * 16777215 → mean_ratio halves sum ≤ 999
+small_mean halves sum some within =
+    let below : 1000 * sum / (16777216 * halves) < 1000 =
+    div_below (1000 * sum) (16777216 * halves) 1000 (omega (arith, some)) (omega (arith, some, within)) in
+    omega (arith, below)
+
 pub cells_are_supported : CellsAreSupported
 cells_are_supported recording halves cell is =
+    let at = is.detected.candidate.maximum in
     let matches = ap (λ c. c.matches) is.detected.fields in
     let enough = is.detected.detection.enough in
-    (omega (arith, matches, enough), is.detected.candidate.maximum)
+    let ratio_is = ap (λ c. c.ratio) is.detected.fields in
+    let small =
+    small_mean halves (accumulated recording halves cell.n2 cell.position)
+    (some_half_frame recording halves cell.n2 cell.position at)
+    (accumulated-below recording halves cell.n2 cell.position) in
+    (omega (arith, matches, enough), omega (arith, ratio_is, small), at)

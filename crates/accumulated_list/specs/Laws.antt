@@ -22,10 +22,11 @@ abbrev pub CellsAreApart : Type 0
 CellsAreApart = (recording : List Sample) (halves : ℕ) (a b : DetectedCell) →
     IsListed recording halves a → IsListed recording halves b → a.id ≡ b.id → a ≢ b → 137 < distance a.position b.position
 
--- at least 93 of 124 signs match those of a listed cell, and its position is a maximum
+-- at least 93 of 124 signs match those of a listed cell, its mean ratio is at most 999 thousandths, and its position is
+-- a maximum
 abbrev pub CellsAreSupported : Type 0
 CellsAreSupported = (recording : List Sample) (halves : ℕ) (cell : DetectedCell) → IsListed recording halves cell →
-    (93 ≤ cell.matches) × IsMaximum (row_of recording halves cell.n2) cell.position
+    (93 ≤ cell.matches) × (cell.ratio ≤ 999) × IsMaximum (row_of recording halves cell.n2) cell.position
 
 -- the list has at most 192 cells, 64 for each primary signal
 abbrev pub ListIsShort : Type 0

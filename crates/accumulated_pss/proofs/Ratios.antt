@@ -24,7 +24,11 @@ pub ratios_are_below_one : RatiosAreBelowOne
 unfolding ratio_at
 ratios_are_below_one recording n2 t = small_ratio (peak recording n2 t) (energy recording t) (wave_power n2) (peak_within recording n2 t)
 
-pub accumulated-within : (recording : List Sample) (halves n2 t : ℕ) → accumulated recording halves n2 t ≤ halves * one
-accumulated-within recording halves n2 t =
-    total_below-within halves one (ratio recording n2 t)
+-- a sum over half-frames is below their number
+pub accumulated-below : (recording : List Sample) (halves n2 t : ℕ) → accumulated recording halves n2 t ≤ halves * 16777215
+accumulated-below recording halves n2 t =
+    total_below-within halves 16777215 (ratio recording n2 t)
     (λ half l. let below = ratios_are_below_one recording n2 (t + 9600 * half) in omega (arith, below))
+
+pub accumulated-within : (recording : List Sample) (halves n2 t : ℕ) → accumulated recording halves n2 t ≤ halves * one
+accumulated-within recording halves n2 t = let below = accumulated-below recording halves n2 t in omega (arith, below)

@@ -22,13 +22,13 @@ type Row = (u32, u32, i64, [Sent; 3], usize, [Listed; 3]);
 const NONE: Sent = (0, 0, 0, 137);
 
 const ROWS: [Row; 12] = [
-    (0, 1, 0, [NONE, NONE, NONE], 1, [[0; 8], [0; 8], [0; 8]]),
+    (0, 1, 0, [NONE, NONE, NONE], 2, [[0; 8], [0; 8], [0; 8]]),
     (
         0,
         2,
         12_345,
         [NONE, NONE, NONE],
-        1,
+        2,
         [[0; 8], [0; 8], [0; 8]],
     ),
     (300, 3, 0, [NONE, NONE, NONE], 2, [[0; 8], [0; 8], [0; 8]]),
