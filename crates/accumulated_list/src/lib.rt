@@ -12,8 +12,8 @@ ghost use Rattle.accumulated_list.specs.Laws.{OnlyOneList, CoveredSamplesDecide,
 pub use cell::DetectedCell;
 pub use listing::list_accumulated;
 
-/// A law: the covered samples decide the list, and there is only one. Cells with one identity are more than 137
-/// positions apart, each has at least 93 matches and a ratio of at most 999 at a maximum, and there are at most 192.
+/// A law: the covered samples decide the only list. Cells with one identity are over 137 positions apart; each has at
+/// least 93 matches and a ratio up to 999 at a maximum; there are at most 192.
 pub fn list_is_right()
     ensures only { OnlyOneList }
     ensures covered { CoveredSamplesDecide }

@@ -20,6 +20,7 @@ abbrev pub used_length : Span → ℕ
 used_length First = deciding_length
 used_length All = most_samples
 
+-- the text of the cells that are detected over `halves` half-frames, or their JSON as a line
 abbrev pub deep_text : Output → ℕ → List DetectedCell → List ℕ
 deep_text Text halves cells = accumulated_text halves cells
 deep_text Json halves cells = as_line (accumulated_json halves cells)
