@@ -152,57 +152,37 @@ def code_of(trial):
     return 3 if len(trial.data) % width else 4 if len(trial.data) < LEAST * width else 0
 
 
-def listed(trial):
-    """Returns the number of half-frames, and the reference's list."""
+def answer_to(trial):
+    """Returns the reference's output, and how many cells it has."""
     r = wide_agree.numbers_of(trial)
-    halves = deep.half_frames(len(r) if "all" in trial.words else min(len(r), deep.KEPT))
-    return halves, [
-        {
-            "at": entry.start,
-            "identity": entry.identity,
-            "matches": entry.signs,
-            "power": entry.power,
-            "ratio": entry.ratio,
-            "subframe": entry.half,
-            "t": entry.t,
-        }
-        for entry in deep.listed(r, halves)
-    ]
+    span = len(r) if "all" in trial.words else deep.KEPT
+    if "--json" in trial.words:
+        value = deep.value(r, span)
+        return json.dumps(value, separators=(",", ":")) + "\n", len(value["cells"])
+    lines = deep.lines(r, span)
+    return "\n".join(lines) + "\n", len(lines) - 1
 
 
 def kept(trial, seed, folder):
-    """Returns what `listed` does, from the trial's file in the folder if it is there."""
+    """Returns what `answer_to` does, from the trial's file in the folder if it is there."""
     digest = hashlib.sha256(trial.data + " ".join(trial.words).encode()).hexdigest()[:12]
     file = folder and folder / f"{seed}-{digest}.json"
     if file and file.is_file():
         return json.loads(file.read_text())
-    found = listed(trial)
+    found = answer_to(trial)
     if file:
         file.write_text(json.dumps(found))
     return found
 
 
-def text_of(trial, halves, cells):
-    """Returns the form's output."""
-    if "--json" in trial.words:
-        return json.dumps({"cells": cells, "half_frames": halves}, separators=(",", ":")) + "\n"
-    rows = [
-        f"{cell['t']} {cell['identity']} {cell['subframe']} {cell['at']} matches {cell['matches']} ratio {cell['ratio']}"
-        f" power {cell['power']}"
-        for cell in cells
-    ]
-    return "\n".join([f"deep {len(cells)} of {halves}", *rows]) + "\n"
-
-
 def compared(seed, program, answers):
     """Returns the seed's difference, or nothing, its trial, and what to count."""
     trial, counts = trial_of(seed), collections.Counter()
-    code, text, cells = code_of(trial), "", []
+    code, text, count = code_of(trial), "", 0
     if code == 0:
-        halves, cells = kept(trial, seed, answers)
-        text = text_of(trial, halves, cells)
+        text, count = kept(trial, seed, answers)
     counts[f"kind {trial.kind}"] += 1
-    counts[f"refused: {wide_agree.REFUSALS[code]}" if code else f"listed, {len(cells)} cells"] += 1
+    counts[f"refused: {wide_agree.REFUSALS[code]}" if code else f"listed, {count} cells"] += 1
     difference = ""
     if program != "none":
         done = subprocess.run([program, *trial.words], input=trial.data, capture_output=True, check=False)
