@@ -1,8 +1,9 @@
 #!/usr/bin/env bash
-# check.sh
+# check.sh [--sources|--programs]
 #
-# Checks of the Python, the scripts and the pages. They need neither Rattle nor a built program, and take a minute once
-# the reference implementations have run (rows), which takes two minutes of processor time:
+# Checks of the Python, the scripts and the pages. With --sources only those that need neither Rattle nor a built
+# program: they take a minute once the reference implementations have run (rows), which takes two minutes of processor
+# time. With --programs only those that run the built programs. Without a word both.
 #   pyflakes3, black (120 columns) and mypy on the Python, shellcheck on the scripts;
 #   edits: each mutant can be applied;
 #   comments: comments are readable by themselves and follow the rules of English that a script can ask;
@@ -18,14 +19,20 @@
 #   pytest: python/tests, over all three packages, in two processes: tests/gate, and the others.
 # black, mypy and pytest run next to the other checks, and what they print follows; CHECK_JOBS=1 runs one after another.
 # Run by hand: copies counts near copies; stands lists commits that do not stand as a whole (scripts/gate.sh lists all).
-# If lte_cli is built (crates/lte_cli/out/lte_cli, or LTE_CLI), the examples are run too, and each completed form. A check
-# whose package is missing is left out, with a line that says so, here and at the end; nothing is installed. The status
-# is 1 if a check fails.
+# If lte_cli is built (crates/lte_cli/out/lte_cli, or LTE_CLI), the tests of the programs, the examples and each completed
+# form are run too. A check whose package is missing is left out, with a line that says so, here and at the end; nothing
+# is installed. The status is 1 if a check fails.
 set -u
 cd "$(dirname "$0")/.." || exit 1
 python=/usr/bin/python3                 # Debian's, which has Debian's packages
 [ -x "$python" ] || python=python3
 export PYTHONPATH=$PWD/python PYTHONDONTWRITEBYTECODE=1
+case "${1-}" in
+    '') parts='sources programs' ;;
+    --sources) parts=sources ;;
+    --programs) parts=programs ;;
+    *) echo 'check.sh: usage: check.sh [--sources|--programs]' >&2; exit 2 ;;
+esac
 failed=()
 left=()
 jobs=${CHECK_JOBS:-$(nproc)}
@@ -72,8 +79,12 @@ gate() { # gate MODULE WORD..: runs a check of python/lte_gate
     fi
 }
 
-tests() { # tests WORD..: these tests of python/tests
-    (cd python && "$python" -m pytest -m 'not slow' "$@")
+tests() { # tests MARKERS WORD..: these tests of python/tests
+    (cd python && "$python" -m pytest -m "$1" "${@:2}")
+}
+
+holds() { # holds PART: whether this part was asked for
+    [[ " $parts " == *" $1 "* ]]
 }
 
 has() { # has MODULE..: whether this Python has these modules
@@ -88,53 +99,65 @@ says() { # says TEXT WORD..: an example writes this line
     fi
 }
 
-mapfile -t sources < <(find scripts python -name '*.py' | sort)
-mapfile -t shells < <(find scripts -name '*.sh' | sort)
-check pyflakes3 pyflakes3 "${sources[@]}"
-check shellcheck shellcheck "${shells[@]}" .ci/run
-check shellcheck shellcheck -s bash scripts/install/completion/*.bash
-if [[ $(black --version 2> /dev/null) == *' 23.'* ]]; then
-    start black black --check --quiet --diff --line-length 120 scripts python
-else
-    leave_out black 'it formats by its version (Debian 12: black 23)'
-fi
-if ! has numpy; then
-    leave_out mypy 'no numpy (Debian: python3-numpy)'
-elif command -v mypy > /dev/null; then
-    start mypy mypy --config-file python/pyproject.toml --cache-dir "${XDG_CACHE_HOME:-$HOME/.cache}/lte_gate/mypy" \
-        python/lte_tools
-else
-    leave_out mypy 'not installed (Debian: mypy)'
-fi
-if has pytest numpy scipy matplotlib; then
-    start pytest-gate tests tests/gate
-    start pytest-tools tests tests --ignore tests/gate
-else
-    leave_out 'python/tests' 'no pytest, numpy, scipy or matplotlib (Debian: python3-pytest and so on)'
-fi
-gate edits
-gate comments
-gate layers
-gate documents
-gate crates_picture docs/ARCHITECTURE.md
-gate rows
-if has numpy scipy matplotlib; then
-    gate made
-else
-    leave_out 'made' 'no numpy, scipy or matplotlib (Debian: python3-numpy, python3-scipy, python3-matplotlib)'
-fi
-check mandoc mandoc -Tlint scripts/install/man/*.1
+check_sources() {
+    mapfile -t sources < <(find scripts python -name '*.py' | sort)
+    mapfile -t shells < <(find scripts -name '*.sh' | sort)
+    check pyflakes3 pyflakes3 "${sources[@]}"
+    check shellcheck shellcheck "${shells[@]}" .ci/run
+    check shellcheck shellcheck -s bash scripts/install/completion/*.bash
+    if [[ $(black --version 2> /dev/null) == *' 23.'* ]]; then
+        start black black --check --quiet --diff --line-length 120 scripts python
+    else
+        leave_out black 'it formats by its version (Debian 12: black 23)'
+    fi
+    if ! has numpy; then
+        leave_out mypy 'no numpy (Debian: python3-numpy)'
+    elif command -v mypy > /dev/null; then
+        start mypy mypy --config-file python/pyproject.toml \
+            --cache-dir "${XDG_CACHE_HOME:-$HOME/.cache}/lte_gate/mypy" python/lte_tools
+    else
+        leave_out mypy 'not installed (Debian: mypy)'
+    fi
+    if has pytest numpy scipy matplotlib; then
+        start pytest-gate tests 'not slow and not program' tests/gate
+        start pytest-tools tests 'not slow and not program' tests --ignore tests/gate
+    else
+        leave_out 'python/tests' 'no pytest, numpy, scipy or matplotlib (Debian: python3-pytest and so on)'
+    fi
+    gate edits
+    gate comments
+    gate layers
+    gate documents
+    gate crates_picture docs/ARCHITECTURE.md
+    gate rows
+    if has numpy scipy matplotlib; then
+        gate made
+    else
+        leave_out 'made' 'no numpy, scipy or matplotlib (Debian: python3-numpy, python3-scipy, python3-matplotlib)'
+    fi
+    check mandoc mandoc -Tlint scripts/install/man/*.1
+}
 
-program=$(realpath -m "${LTE_CLI:-crates/lte_cli/out/lte_cli}")
-export LTE_CLI=$program LTE_TUNE=${LTE_TUNE:-${program//lte_cli/lte_tune}}
-check bash bash scripts/install/test_completion.sh
-if [ -x "$program" ]; then
+check_programs() {
+    if [ ! -x "$program" ]; then
+        leave_out 'examples, and tests of the programs' 'lte_cli is not built'
+        return
+    fi
+    if has pytest numpy scipy matplotlib; then
+        start pytest-programs tests 'not slow and program' tests
+    else
+        leave_out 'tests of the programs' 'no pytest, numpy, scipy or matplotlib (Debian: python3-pytest and so on)'
+    fi
     says 'cell 0 at 0 .*' bash scripts/examples/send_and_search.sh
     says '0 yes' bash scripts/examples/certify_and_check.sh
     says '9 refusals, 0 are others' bash scripts/examples/refusals.sh
-else
-    leave_out 'examples, and tests of the programs' 'lte_cli is not built'
-fi
+}
+
+program=$(realpath -m "${LTE_CLI:-crates/lte_cli/out/lte_cli}")
+export LTE_CLI=$program LTE_TUNE=${LTE_TUNE:-${program//lte_cli/lte_tune}}
+if holds sources; then check_sources; fi
+if holds programs; then check_programs; fi
+check bash bash scripts/install/test_completion.sh
 finish
 if [ ${#left[@]} != 0 ]; then
     echo "check.sh: LEFT OUT ${#left[@]}: $(printf '%s; ' "${left[@]}")"

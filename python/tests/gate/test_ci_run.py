@@ -10,7 +10,7 @@ from lte_gate.repository import TOP
 STANDS_IN = {
     "dpkg": '[ "$2" != "$MISSING" ]',
     "apt-get": 'echo "$*" >> "$NOTES"; echo no network; exit "$APT"',
-    "rt": 'echo "rt $*"; exit 3',
+    "rt": 'echo "rt $*"; exit "$RT"',
     "id": 'echo "$USER_ID"',
     "timeout": 'shift; exec "$@"',
 }
@@ -22,14 +22,14 @@ def run_of_gate(tmp_path):
     for path in (".ci", "scripts", "bin"):
         (tmp_path / path).mkdir()
     shutil.copy(TOP / ".ci/run", tmp_path / ".ci/run")
-    (tmp_path / "scripts/check.sh").write_text('echo checked\nexit "$CHECK"\n')
+    (tmp_path / "scripts/check.sh").write_text('echo "checked $*"\n[ "$1" = "$FAILS" ] && exit 1\nexit 0\n')
     for name, text in STANDS_IN.items():
         (tmp_path / "bin" / name).write_text(f"#!/bin/sh\n{text}\n")
         (tmp_path / "bin" / name).chmod(0o755)
 
-    def run(missing="", apt=0, check=0, user=0):
+    def run(missing="", apt=0, fails="", user=0, proofs=3):
         environment = {"PATH": f"{tmp_path / 'bin'}:{os.environ['PATH']}", "NOTES": str(tmp_path / "notes")}
-        environment |= {"MISSING": missing, "APT": str(apt), "CHECK": str(check), "USER_ID": str(user)}
+        environment |= {"MISSING": missing, "APT": str(apt), "FAILS": fails, "USER_ID": str(user), "RT": str(proofs)}
         how = {"cwd": "/", "env": environment, "capture_output": True, "text": True, "check": False}
         done = subprocess.run(["bash", tmp_path / ".ci/run"], **how)
         notes = tmp_path / "notes"
@@ -39,12 +39,12 @@ def run_of_gate(tmp_path):
 
 
 def test_nothing_is_missing(run):
-    assert run() == (3, "checked\nrt ci\n", "")
+    assert run() == (3, "checked --sources\nrt ci\n", "")
 
 
 def test_missing_package_is_installed(run):
     status, said, asked = run("mypy")
-    assert (status, said) == (3, ".ci/run: installed: mypy\nchecked\nrt ci\n")
+    assert (status, said) == (3, ".ci/run: installed: mypy\nchecked --sources\nrt ci\n")
     assert asked.endswith("install -y --no-install-recommends mypy\n")
 
 
@@ -52,7 +52,7 @@ def test_without_network_the_gate_goes_on_and_says_so(run):
     status, said, asked = run("mypy", apt=100)
     assert status == 3 and asked.count("\n") == 2
     assert ".ci/run: NOT INSTALLED: mypy; their checks are left out (no network)\n" in said
-    assert "checked\nrt ci\n" in said
+    assert "checked --sources\nrt ci\n" in said
 
 
 def test_who_is_not_root_installs_nothing(run):
@@ -61,5 +61,11 @@ def test_who_is_not_root_installs_nothing(run):
 
 
 def test_failed_checks_end_the_gate(run):
-    status, said, _ = run(check=1)
+    status, said, _ = run(fails="--sources")
     assert status == 1 and "rt ci" not in said.replace("rt ci was not run", "")
+
+
+def test_tests_of_the_programs_follow_the_proofs(run):
+    everything = "checked --sources\nrt ci\nchecked --programs\n"
+    assert run(proofs=0) == (0, everything, "")
+    assert run(proofs=0, fails="--programs") == (1, everything, "")
