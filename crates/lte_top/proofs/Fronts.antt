@@ -45,6 +45,7 @@ use Rattle.lte_top.specs.Reports.{kept_for, wide_for, IsReport}
 use Rattle.lte_top.specs.Run.{HasOutput}
 use Rattle.evidence.specs.Receivers.{receiver_of}
 use Rattle.lte_top.specs.Searching.{FirstFramesDecideEach, IsListOf}
+use Rattle.lte_top.specs.Why.{EachLooksAtFirstFrames, FirstFramesDecideWhy}
 use Rattle.lte_top.proofs.Carriers.{list_holds}
 use Rattle.lte_top.proofs.Deep.{kept_deep}
 use Rattle.lte_top.proofs.Ending.{recording_unrefused}
@@ -52,7 +53,7 @@ use Rattle.lte_top.proofs.Ending.{recording_unrefused}
 -- ---- lists
 
 -- the receiver for a transmission scheme depends on the first frames only
-looks : (carrier : Carrier) → LooksAtFirstFrames (receiver_of carrier)
+pub looks : EachLooksAtFirstFrames
 looks OnePort = slots_look OnePort None placed_values
 looks TwoPorts = slots_look TwoPorts (Some 2) (paired_by over_two)
 looks LongPrefix = long_looks
@@ -63,6 +64,9 @@ looks FourPorts = record {
 
 pub each_is_decided : FirstFramesDecideEach
 each_is_decided carrier = decided (receiver_of carrier) (looks carrier)
+
+pub why_is_decided : FirstFramesDecideWhy
+why_is_decided carrier = first_frames_decide_reasons (receiver_of carrier) (looks carrier)
 
 -- the kept samples agree with the recording
 front_agrees : (most : ℕ) (samples : List Sample) → AgreeBefore most (take most samples) samples
@@ -96,7 +100,7 @@ reasons_decide carrier samples identity reasons is = by_length (nat_le deciding_
     by_length true e =
         let above = is_above deciding_length (length samples) e in
         let size : length (take deciding_length samples) ≡ deciding_length = length-take-le deciding_length samples above in
-        first_frames_decide_reasons (receiver_of carrier) (looks carrier) (take deciding_length samples) samples identity reasons (omega (arith, size)) above
+        why_is_decided carrier (take deciding_length samples) samples identity reasons (omega (arith, size)) above
         (front_agrees deciding_length samples) is
     by_length false e =
         subst (λ (kept : List Sample). IsReasonFor (receiver_of carrier) kept identity reasons) (take_all deciding_length samples (is_below deciding_length (length samples) e)) is

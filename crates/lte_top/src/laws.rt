@@ -6,6 +6,7 @@ ghost use Rattle.lte_top.specs.Found.{WhatIsSentIsFound};
 ghost use Rattle.lte_top.specs.Searching.{FirstFramesDecideEach};
 ghost use Rattle.lte_top.specs.Making.{WhatIsMadeIsHeld};
 ghost use Rattle.lte_top.specs.Run.{HasOneAnswer};
+ghost use Rattle.lte_top.specs.Why.{EachLooksAtFirstFrames, FirstFramesDecideWhy};
 
 use capture_make::numbers_are_clean;
 use cell_tx::sum_is_clean;
@@ -31,11 +32,14 @@ pub fn what_is_made_is_held()
     numbers_are_clean();
 }
 
-/// A law: two recordings that agree in their first 326,400 samples (17 frames) have the same list under each
-/// transmission scheme, and the same `ids --deep`. `search` without `--cancel` therefore keeps no later sample.
+/// A law: two recordings that agree in their first 326,400 samples (17 frames) have the same list and the same reasons
+/// under each transmission scheme, and the same `ids --deep`. `search` without `--cancel` therefore keeps no later
+/// sample.
 pub fn the_first_frames_decide_each_list()
     ensures each { FirstFramesDecideEach }
     ensures deep { FirstFramesDecideDeep }
+    ensures receivers { EachLooksAtFirstFrames }
+    ensures why { FirstFramesDecideWhy }
 {}
 
 /// A law: the output of `apply` is a valid recording, and has as many cells as `tell` reports.
