@@ -2,7 +2,8 @@
 
 Where the noise floor steps, and the cells step with it, the radio's gain has changed: levels are then those at the gain of
 the first window. The noise floor of a file of whole numbers has their rounding errors, which do not step: a step is that of
-the rest.
+the rest. A file within a carrier has no quiet frequency: its floor is traffic, which rises and falls with the cells, so
+steps are searched for only if a reference element is well above the floor in some window.
 
 Debian: python3-numpy.
 """
@@ -26,6 +27,7 @@ from .sightings import WINDOW, Sighting, Task, samples_of, settled, sightings_of
 from .survey_data import Power, Step
 
 STEP = 2  # dB: the minimum of a gain step
+QUIET = 16  # dB from the floor to the strongest reference element of a file, at least, if the floor is noise
 ALIKE = 1.2  # dB by which windows of one gain differ, at most
 FEW = 5  # windows on either side of a step that give the noise
 AGREED = 3  # dB by which a cell's step may differ from that of the noise
@@ -95,6 +97,8 @@ def without_rounding(one: Power, rounding: float) -> Power:
 def steps_of(powers: Sequence[Power], cells: Sequence[SeenCell], rounding: float = 0.0) -> list[Step]:
     """Returns the steps of the radio's gain, by windows in the order of time and the cells in them; `rounding` is the power
     in 15 kHz of the rounding errors in the samples."""
+    if not has_quiet_frequency(powers, cells):
+        return []
     found: list[Step] = []
     known = [without_rounding(one, rounding) for one in powers if one.noise is not None and one.total is not None]
     first = 0
@@ -105,6 +109,15 @@ def steps_of(powers: Sequence[Power], cells: Sequence[SeenCell], rounding: float
             found.append(step)
             first = i + 1
     return found
+
+
+def has_quiet_frequency(powers: Sequence[Power], cells: Sequence[SeenCell]) -> bool:
+    """Returns whether a window has a listed cell that is at least QUIET dB above the noise floor: within a loaded carrier the
+    floor is traffic, which is nearer."""
+    floors = {one.seconds: one.noise for one in powers if one.noise is not None}
+    seen = (one for cell in cells if not cell.is_chance(cells) for one in cell.seen)
+    known = ((one.level, floors.get(round(one.task.start, 6))) for one in seen)
+    return any(level is not None and floor is not None and level >= floor + QUIET for level, floor in known)
 
 
 def step_between(before: Sequence[Power], after: Sequence[Power]) -> Step | None:
@@ -206,11 +219,11 @@ def even(
     rounding: float = 0.0,
     identities: Sequence[SeenIdentity] = (),
 ) -> tuple[list[Power], list[Step]]:
-    """Sets the gain of all sightings, by the steps of a constant gain or as options name it over time; those of a window
-    within which it steps have no level. Returns the powers of the windows at the first gain, and the steps; `rounding` is
+    """Sets the gain of all sightings, by the steps that are found or as options name it; those of a window within which it
+    steps have no level. Returns the powers of the windows at the first gain, and the steps; `rounding` is
     that of `steps_of`."""
     gains = gains_of(gain)
-    steps = steps_of(powers, cells, rounding) if len(gains.points) == 1 else []
+    steps = steps_of(powers, cells, rounding) if gain is None else []
     gains = gains.with_steps(steps) if steps else gains
     for cell in cells:
         cell.seen = [at_gains(one, gains) for one in cell.seen]

@@ -11,6 +11,7 @@ import os
 import pathlib
 import shutil
 import signal
+import stat
 import subprocess
 import sys
 from typing import Any, Callable, Iterable, NoReturn
@@ -83,19 +84,67 @@ def check_place(path: pathlib.Path, inputs: Iterable[pathlib.Path | None] = ()) 
     """Refuses a path at which no file can be written, or at which one of the files that are read is."""
     if path.exists() and any(one and one.exists() and one.samefile(path) for one in inputs):
         raise Refused(f"{path}: it is read, and would be overwritten")
-    if path.is_dir() or not os.access(path.parent, os.W_OK | os.X_OK):
-        raise Refused(f"{path}: {'a folder' if path.is_dir() else 'nothing can be written into its folder'}")
+    if path.is_dir():
+        raise Refused(f"{path}: a folder")
+    if is_stream(path):
+        if not os.access(path, os.W_OK):
+            raise Refused(f"{path}: it cannot be written")
+    elif not os.access(os.path.dirname(os.path.realpath(path)), os.W_OK | os.X_OK):
+        raise Refused(f"{path}: nothing can be written into its folder")
+
+
+def is_stream(path: pathlib.Path) -> bool:
+    """Returns whether a path is a device, a pipe or a socket, or the file that standard output or error goes to: bytes are
+    written to it, and it is not replaced."""
+    try:
+        return not stat.S_ISREG(path.stat().st_mode) or standard_at(path) is not None
+    except OSError:
+        return False
+
+
+def standard_at(path: pathlib.Path) -> int | None:
+    """Returns the number of the standard stream, output or error, that goes to this path, or None."""
+    found = path.stat()
+    return next((number for number in (1, 2) if is_open(number) and os.path.samestat(os.fstat(number), found)), None)
+
+
+def is_open(number: int) -> bool:
+    """Returns whether this process has a file of this number."""
+    try:
+        os.fstat(number)
+    except OSError:
+        return False
+    return True
 
 
 def write(path: pathlib.Path, data: bytes) -> None:
-    """Writes a file under another name first, so that an older one of this name stays if that fails."""
+    """Writes a file under another name first, so that an older one of this name stays if that fails. A link is followed; a
+    device or a pipe gets the bytes as it is."""
+    try:
+        if is_stream(path):
+            write_stream(path, data)
+        else:
+            replace(pathlib.Path(os.path.realpath(path)), data)
+    except OSError as fault:
+        fault.filename = str(path)
+        raise
+
+
+def write_stream(path: pathlib.Path, data: bytes) -> None:
+    """Writes to a device or a pipe, or to a standard stream after what was printed before."""
+    number = standard_at(path)
+    if number is not None:
+        sys.stdout.flush()
+    with open(path if number is None else os.dup(number), "wb") as file:
+        file.write(data)
+
+
+def replace(path: pathlib.Path, data: bytes) -> None:
+    """Writes a file under another name, and puts it in the place of that of this path."""
     part = path.with_name(f".{os.getpid()}.{path.name}")
     try:
         part.write_bytes(data)
         os.replace(part, path)
-    except OSError as fault:
-        fault.filename = str(path)
-        raise
     finally:
         part.unlink(missing_ok=True)
 

@@ -20,8 +20,8 @@ cell has its own. `lte_cli search --rate` reads SIB1 of cells of any bandwidth t
 one cell where identity, frame numbers and offset fit, and one with an echo where they come within 40 samples; samples
 that are missing, a radio that was restarted, and a generator's loop are stated below the table. Where no cell is sure,
 I and Q are tried exchanged. Where the noise and all cells step together, the radio's gain has changed: levels are those
-at the first gain. --gain states it by time, as 0:-20,14:-14: dBFS of a signal of 0 dBm from second 0 and from second
-14.
+at the first gain. --gain states it, as -20, or by time, as 0:-20,14:-14: dBFS of a signal of 0 dBm from second 0 and
+from second 14. Steps are not searched for then.
 
 Several files are one drive, in the order of their times, which SigMF, the header of a WAV file or the names have; what
 is missing between them is stated below the table. With --track each window gets the place of its time: the file's time

@@ -81,7 +81,8 @@ def steps_text(steps: Sequence[Step]) -> str:
     """Returns a sentence on steps of the radio's gain."""
     sizes = ", ".join(f"{one.decibels:+.1f}" for one in steps)
     seconds = ", ".join(f"{one.seconds:.1f}" for one in steps)
-    return f"the radio's gain steps by {sizes} dB at {seconds} s: levels are those at the first gain"
+    text = f"the radio's gain steps by {sizes} dB at {seconds} s: levels are those at the first gain"
+    return f"{text}; if the gain was constant: --gain G"
 
 
 # ---- the line above the table

@@ -4,9 +4,11 @@ import os
 import resource
 import shutil
 import signal
+import stat
 import struct
 import subprocess
 import sys
+import threading
 
 import numpy as np
 import pytest
@@ -14,7 +16,7 @@ from scipy.signal import resample_poly
 
 import lte_tools
 from lte_tools import check_certificate, levels, live, machine, picture_style, radio, stream, to_ci16
-from tests.conftest import TOP, as_radio, is_one_line
+from tests.conftest import EXAMPLES, TOP, as_radio, is_one_line
 
 SHIPPED = TOP / "crates/capture_example/stdin"
 
@@ -159,6 +161,67 @@ def test_older_file_stays_where_there_is_no_room(tmp_path):
     assert place.read_bytes() == b"old" and list(tmp_path.glob(".*")) == []
     machine.write(place, b"new")
     assert place.read_bytes() == b"new"
+
+
+@pytest.fixture
+def reader(tmp_path):
+    """A named pipe, and a thread that reads it to its end."""
+    place, found = tmp_path / "pipe", []
+    os.mkfifo(place)
+
+    def read():
+        descriptor = os.open(place, os.O_RDONLY)
+        with open(descriptor, "rb") as file:
+            found.append(file.read())
+
+    thread = threading.Thread(target=read, daemon=True)
+    thread.start()
+
+    def ended():
+        thread.join(10)
+        return b"".join(found)
+
+    return place, ended
+
+
+@pytest.mark.parametrize("is_link", [False, True])
+def test_pipe_gets_the_bytes_and_stays(tmp_path, reader, is_link):
+    place, ended = reader
+    (tmp_path / "link").symlink_to(place)
+    out = tmp_path / "link" if is_link else place
+    machine.check_place(out)
+    machine.write(out, b"new")
+    assert place.is_fifo() and out.is_symlink() == is_link
+    assert ended() == b"new"
+
+
+def test_file_behind_a_link_is_replaced(tmp_path):
+    (tmp_path / "link").symlink_to(tmp_path / "y.csv")
+    machine.write(tmp_path / "link", b"new")
+    assert (tmp_path / "link").is_symlink() and (tmp_path / "y.csv").read_bytes() == b"new"
+
+
+def test_standard_output_gets_the_bytes_after_what_was_printed(tmp_path, capfd):
+    """As /dev/stdout, which links to a file if output is redirected to one."""
+    place = tmp_path / "stdout"
+    place.symlink_to("/proc/self/fd/1")
+    print("first")
+    machine.check_place(place)
+    machine.write(place, b"second\n")
+    print("third")
+    assert place.is_symlink() and capfd.readouterr().out == "first\nsecond\nthird\n"
+
+
+def test_device_without_room_stays(tool, tmp_path):
+    """A device as /dev/full: standard error says so, and the device is not replaced by a file."""
+    place = tmp_path / "full"
+    try:
+        os.mknod(place, 0o666 | stat.S_IFCHR, os.makedev(1, 7))
+        place.open("wb").close()
+    except OSError:
+        pytest.skip("no device can be made")
+    run = tool("survey", EXAMPLES / "outputs/survey.json", "--csv-windows", place)
+    assert is_one_line(run) and f"{place}: No space left" in run.err and place.is_char_device()
 
 
 def test_programs_are_found(monkeypatch, programs, tmp_path):

@@ -150,8 +150,23 @@ def test_levels_are_those_at_the_first_gain():
     even, (step,) = levels.even(found, powers(-70 + gain), None)
     assert {one.evened for one in found[0].seen} == {-40} and {one.gain for one in found[0].seen} == {0, 6}
     assert {one.noise for one in even} == {-70} and step.decibels == 6
-    even, steps = levels.even(found, powers(-70 + gain), -20)
-    assert {one.evened for one in found[0].seen} == {-20} and {one.noise for one in even} == {-50} and len(steps) == 1
+
+
+@pytest.mark.parametrize("stated", [-20, ((0.0, -20.0),), ((0.0, -20.0), (1e3, -20.0))])
+def test_stated_gain_ends_the_search_for_steps(stated):
+    gain = np.repeat([0.0, 6.0], 6)
+    found = cells(-40 + gain)
+    even, steps = levels.even(found, powers(-70 + gain), stated)
+    assert steps == [] and [one.evened for one in found[0].seen] == list(-20 + gain)
+    assert [one.noise for one in even] == list(-50 + gain)
+
+
+def test_steps_need_a_cell_well_above_the_floor():
+    gain = np.repeat([0.0, 6.0], 6)
+    assert levels.steps_of(powers(-70 + gain), cells(-54.5 + gain)) == []
+    assert len(levels.steps_of(powers(-70 + gain), cells(-54 + gain))) == 1
+    unsure = joined([dataclasses.replace(one, cost=900) for one in [sighting(9, 0, 0, has_sib1=False)]])
+    assert levels.steps_of(powers(-70 + gain), [*cells(-60 + gain), *unsure]) == []
 
 
 def test_gain_by_time_replaces_steps():

@@ -275,6 +275,7 @@ def test_notes_below_the_table(marked):
         "PCI 271",
         "the radio's gain steps by +6.1 dB at 0.0 s",
     ]
+    assert notes[5].endswith("levels are those at the first gain; if the gain was constant: --gain G")
     assert "begins again every 160 ms" in notes[3] and "same in every window" in notes[4]
     (line, _) = csv.DictReader(io.StringIO(survey_table.csv_of(marked)))
     assert (line["doubts"], line["repeats"], line["chance"]) == ("test-model pilots-of-36", "0.16", "no")
