@@ -28,7 +28,7 @@ from .repository import TOP, report, run
 CRATES = TOP / "crates"
 HISTORY = ("CHANGELOG.md",)
 BUDGETS = {
-    "README.md": 2250,
+    "README.md": 1500,
     "CONTRIBUTING.md": 2350,
     "CHANGELOG.md": 2600,
     "docs/ARCHITECTURE.md": 4200,

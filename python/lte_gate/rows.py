@@ -263,7 +263,7 @@ def shown(page):
         script = "\n".join(re.findall(r"^    \$ (.*)", block, re.M))
         for words, peer in PEERS.items():
             script = re.sub(rf"\b{words}({FURTHER})(?= [<|]| -m|$)", peer + r"\1", script, flags=re.M)
-        if script and not re.search(r"\blte_(cli|tune)\b", re.sub(r"crates/\S+", "", script)):
+        if script and not re.search(r"\blte_(?!reference\b)\w+", re.sub(r"crates/\S+", "", script)):
             yield Look(page, ROOM + script, lines_together)
 
 
@@ -432,7 +432,7 @@ def numpy_looks():
         ),
         Look(
             "README.md",
-            "$PY -m lte_reference.wide_sender --identity 301 --width 50 --ports 2"
+            "$PY -m lte_reference.wide_sender --identity 301 --width 50 --ports 2 --snr 15 --frames 20"
             " | $PY -m lte_reference.wide_search 15.36 --ports 2",
             lines_together,
         ),
