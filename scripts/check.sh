@@ -8,6 +8,7 @@
 #   edits: each mutant can be applied;
 #   comments: comments are readable by themselves and follow the rules of English that a script can ask;
 #   layers: each entry of crates.txt is used, and large crates have a reason;
+#   form_list: scripts/forms.txt has an example of each command form, and the tests of faults are made from it;
 #   documents: what the pages name exists, numbers and lists of cells are right, and no page is too long;
 #   crates_picture: the picture and list of the crates are those of the tree;
 #   rows: what the reference implementations print is in the tests and pages that have it from them. A reference
@@ -127,6 +128,7 @@ check_sources() {
     gate edits
     gate comments
     gate layers
+    gate form_list
     gate documents
     gate crates_picture docs/ARCHITECTURE.md
     gate rows

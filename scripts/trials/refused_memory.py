@@ -2,8 +2,8 @@
 """refused_memory.py [PROGRAM [TUNER]]
 
 Refuses each growth of memory of PROGRAM and TUNER in turn (crates/lte_cli/out/lte_cli and crates/lte_tune/out/lte_tune
-where they are left out), for every form of words on a valid input: the first allocation, then the second, until there
-is none to refuse. That run has to end as without a refusal, and each before it with code 8, its text and nothing
+where they are left out), for each form of scripts/forms.txt on its input: the first allocation, then the second, until
+there is none to refuse. That run has to end as without a refusal, and each before it with code 8, its text and nothing
 written. Prints how many growths each form has, and what it found; the status is 0 where nothing was found. It takes a C
 compiler (CC or cc), and a program that takes its memory from the C library.
 """
@@ -14,7 +14,12 @@ import sys
 import tempfile
 
 HERE = pathlib.Path(__file__).resolve().parent
-CRATES = HERE.parent.parent / "crates"
+TOP = HERE.parent.parent
+CRATES = TOP / "crates"
+sys.path.insert(0, str(TOP / "python"))
+
+from lte_gate import form_list  # noqa: E402
+
 CELL, TURNED = CRATES / "capture_example/stdin", CRATES / "lte_tune/stdin"
 MOST = 1000  # growths of one run
 
@@ -47,50 +52,62 @@ def as_bytes(data):
     return bytes(round(127.5 + 127 * number / greatest) for number in numbers)
 
 
-CARRIERS = ("", "--ports 2", "--prefix long", "--ports 4")
-RULES = (*CARRIERS, "--cancel", "--all")
-EXAMPLES = {"--ports 2": "two_ports_cell.json", "--ports 4": "four_ports_cell.json"}
+EXAMPLES = HERE.parent / "examples"
+DESCRIPTIONS = {
+    "description": "plain_cell.json",
+    "two-ports-description": "two_ports_cell.json",
+    "four-ports-description": "four_ports_cell.json",
+}
+SENT = {"two-ports": "--ports 2", "four-ports": "--ports 4", "long-prefix": "--prefix long"}
+WIDE = "--identity 301 --width 50 --ports 2 --snr 15 --frames 4 --out"
 
 
-def of_both(words, recording):
-    """The words on the recording, and on the same of 8-bit numbers."""
-    yield words.split(), recording
-    yield words.split() + ["--format", "cu8"], as_bytes(recording)
+class Inputs:
+    """The valid inputs that scripts/forms.txt names, each made once; in place of that of zeros the cell's certificate."""
+
+    def __init__(self, program, room):
+        self.program, self.room, self.known = program, pathlib.Path(room), {"nothing": b""}
+
+    def named(self, name):
+        if name not in self.known:
+            self.known[name] = self.made(name)
+        return self.known[name]
+
+    def made(self, name):
+        if name == "cell":
+            return CELL.read_bytes()
+        if name == "cell-of-8-bits":
+            return as_bytes(self.named("cell"))
+        if name in SENT:
+            return run(self.program, ["make", "90", *SENT[name].split()], b"")[1].partition(b"\n")[2]
+        if name in DESCRIPTIONS:
+            return (EXAMPLES / DESCRIPTIONS[name]).read_bytes()
+        if name == "wide":
+            return self.wide()
+        certificate = run(self.program, ["certify"], self.named("cell"))[1]
+        return 3 * certificate if name == "certificates" else certificate
+
+    def wide(self):
+        file = self.room / "wide.ci16"
+        words = ["/usr/bin/python3", "-m", "lte_reference.wide_sender", *WIDE.split(), str(file)]
+        subprocess.run(words, check=True, env={"PYTHONPATH": str(TOP / "python")}, stdout=subprocess.DEVNULL)
+        return file.read_bytes()
 
 
-def forms(program):
-    """Words and a valid input of each form of lte_cli."""
-    recording = CELL.read_bytes()
-    certificates = run(program, ["certify"], recording)[1]
-    evidence = (f"evidence {rule}" for rule in (*CARRIERS, "--all"))
-    for words in ("hits", "ids", "ids --deep", "ids --deep all", *(f"search {rule}" for rule in RULES), *evidence):
-        yield from of_both(words, recording)
-        yield from of_both(words + " --json", recording)
-    for rule in CARRIERS:
-        yield from of_both(f"certify {rule}", recording)
-        for identity in range(3):
-            yield from of_both(f"why {identity} {rule}", recording)
-            yield from of_both(f"why {identity} {rule} --json", recording)
-    yield ["check"], 3 * certificates
-    for rule in CARRIERS:
-        description = (HERE.parent / "examples" / EXAMPLES.get(rule, "plain_cell.json")).read_bytes()
-        for load in ("", " --load 7"):
-            yield ("transmit " + rule + load).split(), description
-    for rule in CARRIERS:
-        yield ["make", "7", *rule.split()], b""
-    yield from pages()
+def is_of_tuner(words):
+    return words[0] in ("tell", "apply")
 
 
-def forms_of_tuner():
-    """The same of lte_tune."""
-    for words in ("tell", "tell --json", "apply", "apply 222"):
-        yield from of_both(words, TURNED.read_bytes())
-    yield from pages()
-
-
-def pages():
-    yield ["help"], b""
-    yield ["version"], b""
+def runs(program, tuner, room):
+    """Each program, words and input of the list; of the pages those of both programs."""
+    inputs = Inputs(program, room)
+    for one in form_list.examples():
+        words, data = one.words.split(), inputs.named(one.given)
+        if is_of_tuner(words) and one.given == "cell":
+            data = TURNED.read_bytes()
+        if one.given == "nothing" and words[0] != "make":
+            yield tuner, words, data
+        yield tuner if is_of_tuner(words) else program, words, data
 
 
 def refusals(program, shim, words, data):
@@ -124,8 +141,7 @@ def main():
         )
         print("| Words | growths refused | found |")
         print("| --- | --- | --- |")
-        runs = [(program, *form) for form in forms(program)] + [(tuner, *form) for form in forms_of_tuner()]
-        for run_program, words, data in runs:
+        for run_program, words, data in runs(program, tuner, room):
             growths, found = refusals(run_program, shim, words, data)
             count += len(found) + (growths == 0)
             print(f"| `{' '.join(words)}` | {growths} | {'; '.join(found[:3]) or '-'} |", flush=True)

@@ -1,4 +1,4 @@
-//! The command forms, each with a valid input.
+//! The command forms, each with a valid input. Made from scripts/forms.txt by `scripts/gate.sh form_list --write`.
 
 use crate::inputs::Input;
 
@@ -115,11 +115,13 @@ pub const EVIDENCE_OF_ALL: [Form; 4] = [
 ];
 
 /// The forms with a sample rate.
-pub const AT_RATES: [Form; 4] = [
+pub const AT_RATES: [Form; 6] = [
     ("hits --rate 1.92", Input::Cell16),
     ("search --rate 1.92", Input::Cell16),
     ("evidence --format cu8 --rate 1.92", Input::Cell8),
     ("certify --rate 1.92", Input::Cell16),
+    ("ids --deep --rate 1.92", Input::Cell16),
+    ("why 3 --rate 1.92", Input::Cell16),
 ];
 
 /// The forms of `lte_tune` that report.
