@@ -352,7 +352,8 @@ COLUMNS: tuple[Column[SurveyCell, Survey], ...] = (
         "no SIB1",
         "",
         None,
-        "the reason why SIB1 was not read; `needs 10 MHz` if the file does not have this bandwidth around the carrier",
+        "the reason why SIB1 was not read; `needs 10 MHz` if the file does not have this bandwidth around the carrier, "
+        "`not listed at 15.36` if the list at this rate, in millions of samples per second, does not have the cell",
         lambda cell, survey: cell.no_sib1,
         lambda cell, survey: cell.no_sib1 or "",
         is_left=True,
@@ -492,8 +493,9 @@ PHICH = {
     "two": "Ng 2",
 }
 REASONS = {
-    "ports": "the MIB states this number of antenna ports, and the list at the cell's bandwidth does not have the cell",
-    "bandwidth": "the MIB states this number of resource blocks, and the list at this bandwidth does not have the cell",
+    "ports": "the MIB states this number of antenna ports, for which a list of six resource blocks does not read SIB1",
+    "bandwidth": "the MIB states this number of resource blocks, and SIB1 was not looked for at this bandwidth",
+    "not": "the list at the lowest rate that holds the cell's bandwidth, in millions of samples per second, does not have it",
     "needs": "the file does not have this bandwidth around the cell's carrier",
     "no-search-space": "the control region has this number of control channel elements, fewer than four",
     "no-control": "the control channel has no grant of system information",
