@@ -31,6 +31,7 @@ class SeenCell:
         self.seen = [first]
         self.repeats: int | None = None
         self.detected: list[DeepSighting] = []  # in windows that do not list it (identities.py)
+        self.is_confirmed = False  # whether these alone make its identity certain
 
     def add(self, one: Sighting) -> None:
         self.seen.append(one)
@@ -122,8 +123,8 @@ class SeenCell:
 
     def is_chance(self, cells: Sequence[SeenCell]) -> bool:
         """Returns whether it is probably a false detection: no SIB1 was read, and it was seen once at a cost, or at
-        another's place."""
-        if self.line.sib1 is not None:
+        another's place; and no further windows detect its identity there."""
+        if self.line.sib1 is not None or self.is_confirmed:
             return False
         if self.windows == 1 and (self.share >= DEAR or self.strongest.total < FEW):
             return True

@@ -21,6 +21,7 @@ Whole = TypeVar("Whole")
 CHANCE = "? chance explains this line: it was seen once, or at another's place, and no SIB1 was read"
 # doubts about a cell that is no false detection: words of the JSON, and what they mean in the table
 DOUBTS = {
+    "mib": "further windows detect this identity at its place, so that it is certain; the MIB may be false",
     "test-model": "the MIB has zeros alone, as a generator's test model sends it",
     "wider-carrier": "the MIB states 6 resource blocks, and a carrier sends on both sides of them",
     "pilots-of": "a synchronous neighbour has its pilots at those of this cell: level, S/N and offset are not certain",
@@ -78,12 +79,12 @@ def ratios_text(cell: SurveyCell) -> str:
 
 def doubt_text(word: str) -> str:
     """Returns a doubt as the table has it."""
-    return word.replace("-", " ")
+    return word.replace("-", " ").replace("mib", "MIB")
 
 
 def doubt_meaning(word: str) -> str:
     """Returns what a doubt means, by its word in the JSON or its text in the table."""
-    word = word.replace(" ", "-")
+    word = word.replace(" ", "-").lower()
     return next(meaning for name, meaning in DOUBTS.items() if word.startswith(name))
 
 
