@@ -11,6 +11,7 @@ from typing import Any, Optional
 from . import records
 
 STEP_HERTZ = 1_920_000 / 128 / 128  # of one phase step of lte_tune
+NOT_LISTED = "not listed at "  # begins the reason of a cell that the list at the rate of its bandwidth does not have
 
 
 class Answer:

@@ -78,6 +78,14 @@ def gain(text: str) -> float | tuple[tuple[float, float], ...]:
     return found
 
 
+def network(text: str) -> str:
+    """Returns a network with a hyphen, as 262-02."""
+    found = re.fullmatch(r"([0-9]{3})-?([0-9]{2,3})", text)
+    if not found:
+        raise argparse.ArgumentTypeError(f"{text!r} is not a network such as 262-02")
+    return f"{found[1]}-{found[2]}"
+
+
 def limits(text: str) -> tuple[float, float]:
     """Returns a level and a signal to noise ratio in dB, as -100,5."""
     parts = text.split(",")

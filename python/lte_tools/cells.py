@@ -11,7 +11,7 @@ from typing import TYPE_CHECKING, Sequence, TypeVar
 import numpy as np
 
 from . import radio
-from .answers import Cell
+from .answers import NOT_LISTED, Cell
 from .sightings import CYCLE, DEAR, NEAR, Sighting, distance, saying
 from .survey_data import Echo
 
@@ -31,6 +31,7 @@ class SeenCell:
         self.seen = [first]
         self.repeats: int | None = None
         self.detected: list[DeepSighting] = []  # in windows that do not list it (identities.py)
+        self.is_confirmed = False  # whether these alone make its identity certain
 
     def add(self, one: Sighting) -> None:
         self.seen.append(one)
@@ -96,8 +97,8 @@ class SeenCell:
     def unread(self) -> str | None:
         """Why SIB1 was not read at the cell's bandwidth in the strongest of the windows that were asked, preferably one whose
         list there has the cell; or None."""
-        asked = [one for one in self.seen if one.unread is not None]
-        return max(asked, key=lambda one: (one.unread != one.line.no_sib1, one.strength)).unread if asked else None
+        asked = [(one, one.unread) for one in self.seen if one.unread is not None]
+        return max(asked, key=lambda pair: (is_answer(*pair), pair[0].strength))[1] if asked else None
 
     @property
     def share(self) -> float:
@@ -122,8 +123,8 @@ class SeenCell:
 
     def is_chance(self, cells: Sequence[SeenCell]) -> bool:
         """Returns whether it is probably a false detection: no SIB1 was read, and it was seen once at a cost, or at
-        another's place."""
-        if self.line.sib1 is not None:
+        another's place; and no further windows detect its identity there."""
+        if self.line.sib1 is not None or self.is_confirmed:
             return False
         if self.windows == 1 and (self.share >= DEAR or self.strongest.total < FEW):
             return True
@@ -137,6 +138,11 @@ class SeenCell:
             and other.share < self.share
             and any(distance(a.epoch, b.epoch, radio.FRAME) <= NEAR for a in self.seen for b in other.seen)
         )
+
+
+def is_answer(one: Sighting, unread: str) -> bool:
+    """Returns whether a reason is that of a list at the cell's bandwidth which has the cell."""
+    return unread != one.line.no_sib1 and not unread.startswith(NOT_LISTED)
 
 
 def names_another(one: Cell, other: Cell) -> bool:

@@ -21,6 +21,7 @@ Whole = TypeVar("Whole")
 CHANCE = "? chance explains this line: it was seen once, or at another's place, and no SIB1 was read"
 # doubts about a cell that is no false detection: words of the JSON, and what they mean in the table
 DOUBTS = {
+    "mib": "further windows detect this identity at its place, so that it is certain; the MIB may be false",
     "test-model": "the MIB has zeros alone, as a generator's test model sends it",
     "wider-carrier": "the MIB states 6 resource blocks, and a carrier sends on both sides of them",
     "pilots-of": "a synchronous neighbour has its pilots at those of this cell: level, S/N and offset are not certain",
@@ -78,12 +79,12 @@ def ratios_text(cell: SurveyCell) -> str:
 
 def doubt_text(word: str) -> str:
     """Returns a doubt as the table has it."""
-    return word.replace("-", " ")
+    return word.replace("-", " ").replace("mib", "MIB")
 
 
 def doubt_meaning(word: str) -> str:
     """Returns what a doubt means, by its word in the JSON or its text in the table."""
-    word = word.replace(" ", "-")
+    word = word.replace(" ", "-").lower()
     return next(meaning for name, meaning in DOUBTS.items() if word.startswith(name))
 
 
@@ -352,7 +353,8 @@ COLUMNS: tuple[Column[SurveyCell, Survey], ...] = (
         "no SIB1",
         "",
         None,
-        "the reason why SIB1 was not read; `needs 10 MHz` if the file does not have this bandwidth around the carrier",
+        "the reason why SIB1 was not read; `needs 10 MHz` if the file does not have this bandwidth around the carrier, "
+        "`not listed at 15.36` if the list at this rate, in millions of samples per second, does not have the cell",
         lambda cell, survey: cell.no_sib1,
         lambda cell, survey: cell.no_sib1 or "",
         is_left=True,
@@ -492,8 +494,9 @@ PHICH = {
     "two": "Ng 2",
 }
 REASONS = {
-    "ports": "the MIB states this number of antenna ports, and the list at the cell's bandwidth does not have the cell",
-    "bandwidth": "the MIB states this number of resource blocks, and the list at this bandwidth does not have the cell",
+    "ports": "the MIB states this number of antenna ports, for which a list of six resource blocks does not read SIB1",
+    "bandwidth": "the MIB states this number of resource blocks, and SIB1 was not looked for at this bandwidth",
+    "not": "the list at the lowest rate that holds the cell's bandwidth, in millions of samples per second, does not have it",
     "needs": "the file does not have this bandwidth around the cell's carrier",
     "no-search-space": "the control region has this number of control channel elements, fewer than four",
     "no-control": "the control channel has no grant of system information",

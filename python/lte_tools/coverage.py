@@ -1,17 +1,20 @@
 """Coverage of a survey: in how many windows, and on how much of the way, the strongest cell has a level and a signal to
-noise ratio, which cell is the strongest, and how many others are within 6 dB of it.
+noise ratio, which cell is the strongest, and how many others are within 6 dB of it. In a scan this is told apart for each
+carrier with its networks, and for each network that has several.
 
 A window stands for half of the way to the window before it and half of that to the next one, where these follow each other
 and have places; one without a place stands for none of it. Windows without numbers do not count, nor do false detections.
 """
 from __future__ import annotations
 
+import dataclasses
 import itertools
 from dataclasses import dataclass
 from typing import Callable, NamedTuple, Sequence
 
 from . import survey_windows
 from .answers import Answer
+from .carriers import Carrier, carriers_of, networks_of
 from .columns import Column
 from .ground import distance
 from .survey_data import Survey, SurveyCell, SurveyIdentity
@@ -31,7 +34,9 @@ class Part(Answer):
     """A part of the windows: `what` is "all", "cell" (any), "level", "ratio", "both", "strongest" (the cell of an identity,
     and of SIB1's cell identity if it was read), or "others" (so many within 6 dB of the strongest: `value`, for a level or
     a ratio the limit). Windows and their share, metres of the way and their share, None without a track, the number of
-    stretches without a break, and the metres of the longest."""
+    stretches without a break, and the metres of the longest. In a scan all but "all" are of a `group`: a carrier with its
+    networks, its `frequency` in hertz and `shift` above the file's centre, or all carriers of a network. `plmn` has the
+    group's networks, or that of the "strongest" cell."""
 
     what: str
     value: float | None
@@ -43,11 +48,20 @@ class Part(Answer):
     way: float | None
     stretches: int
     longest: float | None
+    group: str | None = None
+    plmn: str | None = None
+    frequency: float | None = None
+    shift: float | None = None
 
     def text(self, unit: str) -> str:
-        """Returns what the part is, in words; levels are in this unit."""
+        """Returns what the part is, in words, after its group; levels are in this unit."""
+        return f"{self.group}: {self.words(unit)}" if self.group else self.words(unit)
+
+    def words(self, unit: str) -> str:
+        """Returns what the part is, in words."""
         if self.what == "strongest":
-            return f"strongest: PCI {self.identity}" + ("" if self.cell is None else f", cell {self.cell}")
+            of = f" of {self.plmn}" if self.plmn and not self.group else ""
+            return f"strongest: PCI {self.identity}" + ("" if self.cell is None else f", cell {self.cell}{of}")
         if self.what == "others":
             count = int(self.value or 0)
             return f"{count or 'no'} other cell{'s' * (count > 1)} within {NEAR} dB of the strongest"
@@ -69,13 +83,56 @@ class Kind(NamedTuple):
     value: float | None = None
     identity: int | None = None
     cell: int | None = None
+    plmn: str | None = None
+
+
+class Group(NamedTuple):
+    """A carrier of a scan, or all carriers of a network: its name, and the hertz above the file's centre of its cells. The
+    group of another survey has no name, and all cells."""
+
+    name: str | None = None
+    plmn: str | None = None
+    frequency: float | None = None
+    shift: float | None = None
+    shifts: frozenset[float | None] = frozenset({None})
+
+    def windows(self, windows: Sequence[Window]) -> list[Window]:
+        """Returns windows with the cells of this group alone."""
+        return [
+            dataclasses.replace(one, cells=tuple(each for each in one.cells if each.cell.shift in self.shifts))
+            for one in windows
+        ]
+
+
+def groups_of(survey: Survey) -> list[Group]:
+    """Returns the networks that have several carriers, then the carriers; of a survey that is no scan one group."""
+    every = carriers_of(survey)
+    if all(one.shift is None for one in every):
+        return [Group()]
+    networks = [group_of(network, every) for network in networks_of(survey)]
+    return [*(one for one in networks if len(one.shifts) > 1), *map(group_of_carrier, every)]
+
+
+def group_of(network: str, carriers: Sequence[Carrier]) -> Group:
+    """Returns the group of all carriers of a network."""
+    shifts = frozenset(one.shift for one in carriers if network in one.networks)
+    return Group(network, network, shifts=shifts)
+
+
+def group_of_carrier(one: Carrier) -> Group:
+    """Returns the group of a carrier."""
+    return Group(one.text, " ".join(one.networks) or None, one.frequency, one.shift, frozenset({one.shift}))
 
 
 def coverage_of(survey: Survey, limits: Limits) -> list[Part]:
     """Returns the parts of a survey's windows."""
     windows = [window for window in survey_windows.windows_of(survey) if not window.is_spoiled]
-    lengths = lengths_of(windows, survey)
-    return [part_of(kind, windows, lengths) for kind in [*kinds_of(limits), *servers(windows), *others(windows)]]
+    whole, first, *further = Whole(windows, lengths_of(windows, survey)), *kinds_of(limits)
+    found = [whole.part(first, Group(), windows)]
+    for group in groups_of(survey):
+        own = group.windows(windows)
+        found += [whole.part(kind, group, own) for kind in (*further, *servers(own), *others(own))]
+    return found
 
 
 def lengths_of(windows: Sequence[Window], survey: Survey) -> list[float] | None:
@@ -130,7 +187,9 @@ def server(number: int, cell: SurveyCell | SurveyIdentity) -> Kind:
     def has(window: Window) -> bool:
         return window.strongest is not None and window.strongest.number == number
 
-    return Kind("strongest", has, identity=cell.identity, cell=cell.sib1.cell if cell.sib1 else None)
+    sib1 = cell.sib1
+    plmn = " ".join(sib1.networks) if sib1 else None
+    return Kind("strongest", has, identity=cell.identity, cell=sib1.cell if sib1 else None, plmn=plmn)
 
 
 def others(windows: Sequence[Window]) -> list[Kind]:
@@ -153,24 +212,34 @@ def others_in(window: Window) -> int | None:
     return sum(one.cell.shift == best.cell.shift and one.level >= best.level - NEAR for one in others)
 
 
-def part_of(kind: Kind, windows: Sequence[Window], lengths: Sequence[float] | None) -> Part:
-    """Returns how much of the windows a part has."""
-    inside = [kind.has(window) for window in windows]
-    runs = [[i for i, _ in run] for is_in, run in itertools.groupby(enumerate(inside), lambda pair: pair[1]) if is_in]
-    metres = None if lengths is None else [sum(lengths[i] for i in run) for run in runs]
-    total = sum(lengths or ())
-    return Part(
-        what=kind.what,
-        value=kind.value,
-        identity=kind.identity,
-        cell=kind.cell,
-        windows=sum(inside),
-        share=round(sum(inside) / len(windows), 4) if windows else 0.0,
-        metres=None if metres is None else round(sum(metres), 1),
-        way=round(sum(metres) / total, 4) if metres is not None and total else None,
-        stretches=len(runs),
-        longest=None if metres is None else round(max(metres, default=0.0), 1),
-    )
+class Whole(NamedTuple):
+    """The windows of a survey, and the metres of the way that each stands for, None if no window has a place."""
+
+    windows: Sequence[Window]
+    lengths: Sequence[float] | None
+
+    def part(self, kind: Kind, group: Group, windows: Sequence[Window]) -> Part:
+        """Returns how much of the windows a part has, whose cells are those of a group."""
+        inside = [kind.has(window) for window in windows]
+        runs = [[i for i, _ in run] for has, run in itertools.groupby(enumerate(inside), lambda pair: pair[1]) if has]
+        metres = None if self.lengths is None else [sum(self.lengths[i] for i in run) for run in runs]
+        total = sum(self.lengths or ())
+        return Part(
+            what=kind.what,
+            value=kind.value,
+            identity=kind.identity,
+            cell=kind.cell,
+            windows=sum(inside),
+            share=round(sum(inside) / len(windows), 4) if windows else 0.0,
+            metres=None if metres is None else round(sum(metres), 1),
+            way=round(sum(metres) / total, 4) if metres is not None and total else None,
+            stretches=len(runs),
+            longest=None if metres is None else round(max(metres, default=0.0), 1),
+            group=group.name,
+            plmn=kind.plmn or group.plmn,
+            frequency=group.frequency,
+            shift=group.shift,
+        )
 
 
 def head_of(survey: Survey, parts: Sequence[Part]) -> str:
@@ -205,6 +274,10 @@ COLUMNS: tuple[Column[Part, Survey], ...] = (
         "the limit of `level` or `ratio`; of `others` how many cells are within 6 dB of the strongest",
         lambda one, _: one.value,
     ),
+    Column("group", None, "", None, "in a scan, the carrier with its networks, or a network", lambda one, _: one.group),
+    Column("plmn", None, "", None, "the group's networks, or that of the strongest cell", lambda one, _: one.plmn),
+    Column("frequency", None, "Hz", None, "the carrier's frequency in a scan", lambda one, _: one.frequency),
+    Column("shift", None, "Hz", None, "the same above the file's centre", lambda one, _: one.shift),
     Column("identity", None, "", None, "of `strongest`, the cell's identity", lambda one, _: one.identity),
     Column("cell", None, "", None, "of `strongest`, the cell identity of SIB1", lambda one, _: one.cell),
     Column(

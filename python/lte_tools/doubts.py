@@ -10,7 +10,7 @@ from .neighbours import coincide
 from .sightings import NEAR, Sighting, distance, is_narrow
 
 ZEROS = "000000"  # the bits of a MIB in hexadecimal digits
-TEST_MODEL, WIDER, PILOTS = "test-model", "wider-carrier", "pilots-of-"
+MIB, TEST_MODEL, WIDER, PILOTS = "mib", "test-model", "wider-carrier", "pilots-of-"
 OVER_NOISE, BELOW = (
     6,
     12,
@@ -19,7 +19,7 @@ OVER_NOISE, BELOW = (
 
 def doubts_of(cell: SeenCell, cells: Sequence[SeenCell]) -> tuple[str, ...]:
     """Returns the words for a cell of a survey's cells."""
-    words = [TEST_MODEL] * is_of_zeros(cell) + [WIDER] * is_wider(cell)
+    words = [MIB] * cell.is_confirmed + [TEST_MODEL] * is_of_zeros(cell) + [WIDER] * is_wider(cell)
     return (*words, *(f"{PILOTS}{identity}" for identity in neighbours_of(cell, cells)))
 
 

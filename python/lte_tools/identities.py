@@ -2,7 +2,8 @@
 
 A detection has an identity and a place in a frame, and no frame number. So detections are of one cell if both are the
 same, where the place drifts with the radio's clock, as that of the listed cells does. Detections of a listed cell belong
-to it. The others are a cell if LEAST windows have them at one place.
+to it. The others are a cell if LEAST windows have them at one place. If a line that is probably a false detection is at that
+place, its identity is certain and only its MIB may be false: both are one cell.
 
 Debian: python3-numpy, python3-scipy. Needs lte_cli.
 """
@@ -11,7 +12,7 @@ from __future__ import annotations
 import bisect
 import dataclasses
 from dataclasses import dataclass
-from typing import Iterable, NamedTuple, Sequence
+from typing import Iterable, NamedTuple, Sequence, TypeVar
 
 from . import programs, radio
 from .answers import DetectedCell
@@ -19,6 +20,7 @@ from .cells import CLOCK, SeenCell
 from .continuity import SLACK, Jump, drift_of
 from .sightings import NEAR, Sighting, Task, Window, distance
 
+C = TypeVar("C", bound=SeenCell)
 LEAST = 2  # windows that make a cell: by coincidence a recording in 1,400 has a detection
 ECHO = 137  # samples at most from a listed cell's frame to that of another of its paths, as `ids --deep` has it
 LEFT = 2e-6  # by which the clock may still be off where the drift of a listed cell is known
@@ -150,6 +152,31 @@ def joined(found: Iterable[DeepSighting], cells: Sequence[SeenCell], jumps: Sequ
             add(lines, one, clock)
     kept = (line for line in lines if line.windows >= LEAST)
     return sorted(kept, key=lambda line: (-line.windows, line.seen[0].seconds))
+
+
+def confirmed(lines: Sequence[SeenIdentity], cells: Sequence[C]) -> tuple[list[SeenIdentity], list[C]]:
+    """Gives lines that are probably false detections the detections of their identity at their place. Returns the cells that
+    no list has, and the others, each once."""
+    unsure, clock = [cell for cell in cells if cell.is_chance(cells)], clock_of(cells)
+    others, taken = list[SeenIdentity](), list[C]()
+    for line in lines:
+        same = [cell for cell in unsure if is_of(line, ListedCell(cell), clock)]
+        if not same:
+            others.append(line)
+            continue
+        first, *further = sorted(same, key=lambda cell: cell.share)
+        for cell in further:
+            first.take(cell)
+        own = ListedCell(first)
+        first.is_confirmed, first.detected = True, [one for one in line.seen if not own.is_listed_with(one)]
+        taken += further
+    return others, [cell for cell in cells if cell not in taken]
+
+
+def is_of(line: SeenIdentity, cell: ListedCell, clock: Clock) -> bool:
+    """Returns whether detections are of a listed cell's identity and, where they are nearest in time, at its place."""
+    nearest = min(line.seen, key=lambda one: min(abs(one.seconds - second) for second in cell.seconds))
+    return nearest.cell.identity == cell.identity and cell.has(nearest, clock)
 
 
 def add(lines: list[SeenIdentity], one: DeepSighting, clock: Clock) -> None:

@@ -276,6 +276,7 @@ class Live:
         """Returns the survey."""
         count, cells = self.ring.size // width_of(self.file), in_windows_order(self.cells)
         others = identities.joined(self.detected, cells, self.jumps)
+        others, cells = identities.confirmed(others, cells)
         rounding = levels.rounding_of(self.file)
         powers, steps = levels.even(cells, list(self.powers), self.options.gain, rounding, others)
         hint = self.hint(cells) if all(cell.is_chance(cells) for cell in cells) else None

@@ -13,7 +13,7 @@ from dataclasses import dataclass
 from typing import Any, TypeVar, Union
 
 from . import bands, machine, track
-from .arguments import Parser, apart, at_least_one, decibels, gain, limits, not_negative, number, rate
+from .arguments import Parser, apart, at_least_one, decibels, gain, limits, network, not_negative, number, rate
 from .machine import Refused
 
 WINDOW = 0.17  # seconds of a window: the 17 frames that a list depends on
@@ -69,7 +69,8 @@ class FileOptions:
 @dataclass(frozen=True)
 class SurveyOptions(FileOptions):
     """Options of a survey: `every` in seconds, `offset` in hertz, `gain` in dB, or pairs of a second of the file and the dB
-    from there on, `jobs` processes, `clashes` in dB, `coverage` a level in the survey's unit and a ratio in dB."""
+    from there on, `jobs` processes, `network` as 262-02, `clashes` in dB, `coverage` a level in the survey's unit and a
+    ratio in dB."""
 
     every: float = WINDOW
     offset: float | None = None
@@ -89,6 +90,7 @@ class SurveyOptions(FileOptions):
     csv_windows: pathlib.Path | None = None
     kml: pathlib.Path | None = None
     plan: pathlib.Path | None = None
+    network: str | None = None
     clashes: float | None = None
     coverage: tuple[float, float] | None = None
     csv: bool = False
@@ -190,6 +192,9 @@ def survey_parser(text: str | None) -> argparse.ArgumentParser:
     add("--csv-windows", type=pathlib.Path, metavar="OUT", help="a table by window, also of windows without a cell")
     add("--kml", type=pathlib.Path, metavar="OUT", help="the way, the cells and their places for other maps")
     add("--plan", type=pathlib.Path, metavar="CSV", help="compare with planned cells: identity,cell,tac,lat,lon ..")
+    add(
+        "--network", type=network, metavar="PLMN", help="only the cells of this network, as 262-02, and on its carriers"
+    )
     add("--clashes", type=decibels, metavar="DB", help="cells within DB in the same windows, with modulo 3, 6, 30")
     add("--coverage", type=limits, metavar="LEVEL,RATIO", help="how much is above a level and a ratio in dB")
     form = parser.add_mutually_exclusive_group()

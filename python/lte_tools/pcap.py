@@ -65,11 +65,11 @@ def of_evidence(lines: Sequence[Evidence], earfcn: int | None = None) -> list[Bl
 
 
 def of_survey(survey: Survey, earfcn: int | None = None) -> list[Blocks]:
-    """Returns the blocks of the windows of each cell that is no false detection."""
+    """Returns the blocks of the windows of each cell whose MIB is no false one."""
     found = []
     for cell in survey.cells:
         number = earfcn_of(cell, survey, earfcn)
-        for one in cell.seen if not cell.chance else ():
+        for one in cell.seen if cell.has_mib else ():
             if one.mib is not None:
                 level = one.level if survey.unit == "dBm" else None
                 blocks = one.mib, one.sib1_block

@@ -1,7 +1,8 @@
 """A survey with places as a map without tiles, north up: at each place the strongest cell, its level by size.
 
 Windows one behind the other with the same strongest cell are one mark where they are near, with their median level. A
-cell has a letter, a mark and a colour, those of the most windows first; a line that chance explains has none.
+cell has a letter, a mark and a colour, those of the most windows first; a line that chance explains has none. A scan has
+a map for each carrier.
 
 Debian: python3-numpy, python3-matplotlib.
 """
@@ -14,7 +15,8 @@ from typing import Any, NamedTuple, Sequence
 import numpy as np
 from matplotlib import collections, patheffects, pyplot, ticker
 
-from . import picture_labels, picture_scan, picture_survey, survey_windows
+from . import carriers, picture_labels, picture_scan, picture_survey, survey_windows
+from .carriers import Carrier
 from .ground import DEGREE, Ground
 from .picture_labels import Point, Sign
 from .picture_style import MARKS, WIDTH, fitted, headed, number_text
@@ -29,6 +31,7 @@ SMALL, GREAT = 9, 110  # square points of marks
 LOW, HIGH = 3.4, 6.2  # inches of a map's height
 MAP, TABLE = (0.85, 6.1), (7.3, 4.55)  # inches from the left, and of width
 HEAD, FOOT, NOTES = 0.75, 0.95, 0.5  # inches above and below the map, and below the table
+BETWEEN = 0.35  # inches above each of several maps
 ROOM = 1  # inches from a corner, within which no place is where an arrow is drawn
 ALONE = 7.2  # inches of a map without a table
 FEW = 9  # cells whose table is beside the map; that of more is below it, a line for each
@@ -313,8 +316,31 @@ def in_order(found: Survey, signs: dict[int, Sign]) -> list[SurveyCell | SurveyI
 
 
 def map_sheet(found: Survey, title: str | None = None) -> Any:
-    """Returns the map, with the table of a few cells beside it, or that of many below."""
+    """Returns the map, with the table of a few cells beside it, or that of many below; of a scan the map of each carrier."""
+    every = carriers.carriers_of(found)
+    if every[1:]:
+        return sheet_of_carriers(found, every, title)
     return (sheet_beside if len(found.lines) <= FEW else sheet_below)(found, title)
+
+
+def sheet_of_carriers(found: Survey, every: Sequence[Carrier], title: str | None) -> Any:
+    """Returns the map of each carrier, one below the other, and beside it a table of the cells that are the strongest."""
+    own = [carriers.on_carrier(found, one) for one in every]
+    maps = [Map(one, MAP[1]) for one in own]
+    tall = HEAD + sum(drawn.height + FOOT + BETWEEN for drawn in maps)
+    figure, top = pyplot.figure(figsize=(WIDTH, tall)), HEAD + BETWEEN
+    headed(figure, title or found.file, picture_survey.facts_line(found, title)).set(y=1 - 0.12 / tall, va="top")
+    for carrier, part, drawn in zip(every, own, maps):
+        ax = axes_at(figure, MAP[0], top, MAP[1], drawn.height)
+        draw_map(ax, drawn)
+        draw_sizes(ax, drawn)
+        ax.set_title(f"{carrier.text}: {ax.get_title()}", fontsize=8.5)
+        cells = in_order(part, drawn.signs)[:FEW]
+        signs = {id(part.lines[number]): sign for number, sign in drawn.signs.items()}
+        height = max(picture_survey.ROW, min(picture_survey.TALL * len(cells), drawn.height))
+        picture_survey.draw_table(axes_at(figure, TABLE[0], top, TABLE[1], height), part, cells, signs)
+        top += drawn.height + FOOT + BETWEEN
+    return figure
 
 
 def sheet_beside(found: Survey, title: str | None) -> Any:

@@ -4,22 +4,24 @@ Debian: python3-numpy, python3-scipy.
 """
 from __future__ import annotations
 
-from dataclasses import dataclass
-from typing import Any
+import dataclasses
+from dataclasses import dataclass, field
+from typing import Any, Mapping
 
 import numpy as np
 import numpy.typing as npt
 
-from . import doubts, programs, radio, recorded, sightings, spectrum
+from . import doubts, programs, radio, recorded, sightings, spectrum, wide
 from .answers import Cell, Evidence, Identity, Offset, Tuning
 from .options import PictureOptions
 from .picture_style import dbfs, facts_of
 from .programs import Answers
-from .radio_file import RadioFile
+from .radio_file import LEAST, RadioFile
 from .rules import BY_NAME, RULES
 
 PRIMARY = 832  # sample of a frame at which the primary signal begins, with either prefix, and half a frame later
 HALF = radio.FRAME // 2
+FRAMES = 17  # of a window that is asked for SIB1
 BAND = 540_000  # hertz on either side that six resource blocks take
 
 
@@ -41,6 +43,8 @@ class View:
     lines: Answers[Cell]  # of all lists
     supports: dict[str, Answers[Evidence]]  # by a rule's name
     beside: float | None = None  # dBFS in 15 kHz outside the middle 1.08 MHz
+    # lines with what lists at the cells' bandwidths say of SIB1, by identity, frame start and frame number
+    at_bandwidth: Mapping[tuple[int, int, int], Cell] = field(default_factory=dict)
 
     @property
     def said(self) -> dict[str, Any]:
@@ -64,7 +68,7 @@ class View:
         for line in self.lines:
             key = sightings.place_of(line)
             found[key] = max(found.get(key, line), line, key=sightings.saying)
-        return list(found.values())
+        return [self.at_bandwidth.get(key, line) for key, line in found.items()]
 
     @property
     def paths(self) -> list[list[Cell]]:
@@ -236,7 +240,7 @@ def view_of(options: PictureOptions, file: RadioFile) -> View:
     facts += [f"{offset:+,.0f} Hz taken off"] * bool(offset) + ["no offset taken off: it is a guess"] * is_guess
     if options.title:
         facts.insert(0, file.path.name)
-    return View(
+    view = View(
         name=options.title or str(file.path),
         facts=", ".join(facts),
         seen=seen,
@@ -252,6 +256,31 @@ def view_of(options: PictureOptions, file: RadioFile) -> View:
         lines=programs.search(data, all=True),
         supports={rule.name: programs.listed(Evidence, rule.evidence, recording, "evidence") for rule in RULES},
     )
+    task = sightings.Task(file, start, seconds, offset)
+    wider = {sightings.place_of(line): wider_line(view, task, line) for line in view.cells if wide.is_open(line)}
+    return dataclasses.replace(view, at_bandwidth=wider)
+
+
+def wider_line(view: View, task: sightings.Task, line: Cell) -> Cell:
+    """Returns a line with SIB1 if a list at the cell's bandwidth has it in one of the first windows, else with a reason."""
+    left = sightings.Detection(line, (view.evidence(line),)).measured
+    offset = task.offset + (left.hertz if left.error < sightings.VAGUE else 0)
+    best = line
+    for number in range(wide.WINDOWS):
+        part = window_in(task, number)
+        if part.length < LEAST / radio.RATE or not wide.is_open(best):
+            break
+        here = dataclasses.replace(line, sfn=(line.sfn + FRAMES * number) % 1024)
+        found = wide.answered(wide.Question(part, here, offset)).line
+        if best is line or found.sib1:
+            best = dataclasses.replace(line, sib1=found.sib1, no_sib1=found.no_sib1)
+    return best
+
+
+def window_in(task: sightings.Task, number: int) -> sightings.Task:
+    """Returns one of the windows of 17 frames in some seconds, of less at their end."""
+    later = number * sightings.WINDOW
+    return dataclasses.replace(task, start=task.start + later, length=min(task.length - later, sightings.WINDOW))
 
 
 def is_echo(line: Cell, other: Cell) -> bool:

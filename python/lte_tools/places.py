@@ -131,7 +131,7 @@ def place_at(file: RadioFile, places: Places, second: float) -> tuple[float, flo
 def geojson_of(survey: Survey) -> dict[str, Any]:
     """Returns a survey's cells, their windows, and the windows without a certain cell, as features."""
     windows = survey_windows.windows_of(survey)
-    best = {id(window.strongest.seen) for window in windows if window.strongest}
+    best = {id(one.seen) for window in windows for one in window.bests}
     features = []
     for cell in survey.cells:
         shared = properties_of(cell, survey)

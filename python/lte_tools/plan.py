@@ -4,7 +4,8 @@ The plan is a CSV file with a head line, in any order and with any further colum
 are known `name`, `cell` (of 28 bits, or `enodeb` and `sector`), `tac`, `plmn` (262-02 or 26202), `earfcn`, `lat` and `lon`.
 NAMES has other names that are read for these.
 A cell whose SIB1 was read is looked for in the plan by its cell identity, and by its network where the plan has one; another
-one by its physical-layer identity alone.
+one by its physical-layer identity alone, but is no planned cell whose SIB1 was read with another identity. Two sectors of an
+eNodeB are exchanged if one has the planned identity of the other, and its own is detected too.
 """
 from __future__ import annotations
 
@@ -55,6 +56,7 @@ RANGES = {"identity": 503, "cell": 2**28 - 1, "enodeb": 2**20 - 1, "sector": 255
 # words of a finding, the gravest first, and what they mean
 FINDINGS = {
     "wrong-identity": "the planned cell has another physical-layer identity",
+    "exchanged": "probably this planned cell, without SIB1: a sector of its eNodeB has its planned identity, and it has that one's",
     "wrong-area": "the planned cell has another tracking area",
     "reuse": "another cell of the survey has this physical-layer identity too",
     "not-planned": "the plan does not have this cell",
@@ -185,9 +187,9 @@ def place_of(row: dict[str, str]) -> tuple[float, float] | None:
 @dataclass(frozen=True)
 class Finding(Answer):
     """What a plan and a survey say of a cell: a word of FINDINGS, name, cell identity, planned and detected physical-layer
-    identity and tracking area, for a reuse the other cell's identity (None if its SIB1 was not read), the windows that list
-    it, its maximum level, and the metres from its planned place to where it was strongest, or to the nearest window, within
-    some 10 metres, if it is not heard."""
+    identity and tracking area, for a reuse or an exchange the other cell's identity (None if its SIB1 was not read) and name,
+    the windows that list it, its maximum level, and the metres from its planned place to where it was strongest, or to the
+    nearest window, within some 10 metres, if it is not heard."""
 
     finding: str
     name: str | None
@@ -200,6 +202,7 @@ class Finding(Answer):
     windows: int
     level: float | None
     metres: float | None
+    other_name: str | None = None
 
 
 def findings_of(survey: Survey, plan: Sequence[Planned]) -> list[Finding]:
@@ -207,13 +210,15 @@ def findings_of(survey: Survey, plan: Sequence[Planned]) -> list[Finding]:
     the survey did not look at are left out, and so are false detections."""
     detected, order = [*lines_of(survey), *identities_of(survey)], list(FINDINGS)
     plan = [one for one in plan if is_looked_at(one, survey)]
-    index = Index(plan)
+    index = Index(plan, detected)
     found, met = [], set[Planned]()
     for lines in detected:
-        own = index.of(lines)
+        probable = index.exchanged_by(lines)
+        own = [probable] if probable else index.of(lines)
         met |= set(own)
-        found += [about for one in own for about in findings_about(one, lines)] or [finding("not-planned", None, lines)]
-        found += [reuse(lines, other) for other in detected if other is not lines and lines.is_confused_with(other)]
+        found += [about for one in own for about in index.findings(one, lines)] or [finding("not-planned", None, lines)]
+        same = [other for other in detected if other is not lines and lines.is_confused_with(other)]
+        found += [reuse(lines, other, own, index.of(other)) for other in same]
     way = way_of(survey)
     missing = [not_heard(one, way) for one in plan if one not in met]
     found += sorted(missing, key=lambda one: math.inf if one.metres is None else one.metres)
@@ -235,21 +240,27 @@ def is_carrier(planned: Planned, frequency: float | None) -> bool:
 
 
 class Index:
-    """The planned cells by their cell identity, and by their physical-layer identity."""
+    """The planned cells by their cell identity, and by their physical-layer identity; those whose SIB1 was read, and those
+    that are exchanged with another sector."""
 
-    def __init__(self, plan: Sequence[Planned]) -> None:
+    def __init__(self, plan: Sequence[Planned], detected: Sequence[Lines] = ()) -> None:
         self.by_cell: dict[int, list[Planned]] = {}
         self.by_identity: dict[int, list[Planned]] = {}
         for one in plan:
             self.by_identity.setdefault(one.identity, []).append(one)
             if one.cell is not None:
                 self.by_cell.setdefault(one.cell, []).append(one)
+        self.known: dict[Planned, Lines] = {}
+        self.known = {one: lines for lines in detected if lines.sib1 for one in self.of(lines) if one.cell is not None}
+        self.bare = [lines for lines in detected if lines.sib1 is None]
+        pairs = ((one, self.partner_of(one, lines)) for one, lines in self.known.items())
+        self.partners = {one: other for one, other in pairs if other}
 
     def of(self, lines: Lines) -> list[Planned]:
         """Returns the planned cell that matches by SIB1, else those of the same physical-layer identity that may be it."""
         like = [one for one in self.by_identity.get(lines.identity, ()) if is_carrier(one, lines.frequency)]
         if lines.sib1 is None:
-            return nearest_of(like, lines.strongest_place)
+            return nearest_of([one for one in like if self.identity_of(one) == lines.identity], lines.strongest_place)
         same = [
             one
             for one in self.by_cell.get(lines.sib1.cell, ())
@@ -257,6 +268,50 @@ class Index:
         ]
         same.sort(key=lambda one: (not is_carrier(one, lines.frequency), one.identity != lines.identity))
         return same[:1] or nearest_of([one for one in like if one.cell is None], lines.strongest_place)
+
+    def identity_of(self, planned: Planned) -> int:
+        """Returns the identity with which SIB1 of a planned cell was read, else the planned one."""
+        return self.known[planned].identity if planned in self.known else planned.identity
+
+    def partner_of(self, planned: Planned, lines: Lines) -> Planned | None:
+        """Returns the sector of a planned cell's eNodeB with which it is exchanged: it has that one's planned identity, and
+        its own is that one's, or that of a cell without SIB1 if that one's was not read."""
+        if planned.identity == lines.identity or planned.cell is None:
+            return None
+        others = (one for one in self.by_identity.get(lines.identity, ()) if is_sector_of_same(one, planned))
+        return next((one for one in others if self.has(one, planned.identity)), None)
+
+    def has(self, planned: Planned, identity: int) -> bool:
+        """Returns whether a planned cell has another identity, as far as SIB1 was read."""
+        if planned in self.known:
+            return self.known[planned].identity == identity
+        return any(one.identity == identity and is_carrier(planned, one.frequency) for one in self.bare)
+
+    def exchanged_by(self, lines: Lines) -> Planned | None:
+        """Returns the planned cell that a cell without SIB1 probably is, since another sector has its identity, or None."""
+        like = self.by_identity.get(lines.identity, ()) if lines.sib1 is None else ()
+        others = (self.partners[one] for one in like if one in self.partners and is_carrier(one, lines.frequency))
+        return next((one for one in others if one not in self.known), None)
+
+    def findings(self, planned: Planned, lines: Lines) -> list[Finding]:
+        """Returns the findings about a detected cell and the planned one that matches."""
+        if lines.sib1 is None and planned.identity != lines.identity:
+            other = next(one for one, partner in self.partners.items() if partner == planned)
+            return [with_other(finding("exchanged", planned, lines), other)]
+        found = findings_about(planned, lines)
+        partner = self.partners.get(planned)
+        return [with_other(one, partner) if partner and one.finding == "wrong-identity" else one for one in found]
+
+
+def is_sector_of_same(one: Planned, other: Planned) -> bool:
+    """Returns whether two planned cells are sectors of one eNodeB on one carrier, as far as carriers are known."""
+    is_same = None not in (one.cell, other.cell) and (one.cell or 0) >> 8 == (other.cell or 0) >> 8
+    return is_same and one != other and is_carrier(one, other.frequency)
+
+
+def with_other(found: Finding, other: Planned) -> Finding:
+    """Returns a finding that names another planned cell."""
+    return dataclasses.replace(found, other=other.cell, other_name=other.name)
 
 
 def nearest_of(cells: list[Planned], place: tuple[float, float] | None) -> list[Planned]:
@@ -295,9 +350,11 @@ def finding(word: str, planned: Planned | None, lines: Lines) -> Finding:
     )
 
 
-def reuse(lines: Lines, other: Lines) -> Finding:
-    """Returns that two cells have one physical-layer identity."""
-    return dataclasses.replace(finding("reuse", None, lines), other=other.sib1.cell if other.sib1 else None)
+def reuse(lines: Lines, other: Lines, own: Sequence[Planned], others: Sequence[Planned]) -> Finding:
+    """Returns that two cells have one physical-layer identity, with the names of the planned cells that they are."""
+    planned, name = (own[0] if len(own) == 1 else None), others[0].name if len(others) == 1 else None
+    cell = other.sib1.cell if other.sib1 else None
+    return dataclasses.replace(finding("reuse", planned, lines), other=cell, other_name=name)
 
 
 def way_of(survey: Survey) -> list[tuple[float, float]]:
@@ -360,7 +417,23 @@ COLUMNS: tuple[Column[Finding, Survey], ...] = (
     Column("identity", "PCI", "", None, "the identity that was detected", lambda one, _: one.identity),
     Column("planned_tac", "planned TAC", "", None, "planned tracking area", lambda one, _: one.planned_tac),
     Column("tac", "TAC", "", None, "tracking area of SIB1", lambda one, _: one.tac),
-    Column("other", "other cell", "", None, "of `reuse`, the other cell of this identity", lambda one, _: one.other),
+    Column(
+        "other",
+        "other cell",
+        "",
+        None,
+        "of `reuse`, the other cell of this identity; of exchanged sectors the other sector",
+        lambda one, _: one.other,
+    ),
+    Column(
+        "other_name",
+        "other name",
+        "",
+        None,
+        "name of that one in the plan",
+        lambda one, _: one.other_name,
+        is_left=True,
+    ),
     Column("windows", "windows", "", None, "windows that list it", lambda one, _: one.windows),
     Column("level", "level", "dBFS", None, "maximum level, in the survey's unit", lambda one, _: one.level),
     Column(

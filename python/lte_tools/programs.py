@@ -375,9 +375,22 @@ def survey(path: str | os.PathLike[str], **keys: Any) -> Survey:
 
 
 def surveyed(given: options.SurveyOptions) -> Survey:
-    """Returns the survey of a file of samples, or the one that a file of JSON has."""
+    """Returns the survey of a file of samples, or the one that a file of JSON has, with the cells of one network alone if
+    that is asked."""
     if given.is_survey:
-        return Survey.read(given.file)
-    from . import surveying
+        found = Survey.read(given.file)
+    else:
+        from . import surveying
 
-    return surveying.survey_of(given)
+        found = surveying.survey_of(given)
+    return found if given.network is None else of_network(found, given.network)
+
+
+def of_network(found: Survey, network: str) -> Survey:
+    """Returns a survey with the cells of a network alone; says which networks there are if none is of it."""
+    from . import carriers
+
+    kept, known = carriers.of_network(found, network), carriers.networks_of(found)
+    if network not in known:
+        machine.note(f"no cell of {network}: {', '.join(known) or 'no network'} is in the survey")
+    return kept

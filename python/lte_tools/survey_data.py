@@ -237,6 +237,11 @@ class SurveyCell(Answer):
         return max(self.echoes, key=lambda one: (one.windows, one.level or 0)) if self.echoes else None
 
     @property
+    def has_mib(self) -> bool:
+        """Whether its MIB is probably no false one."""
+        return not self.chance and "mib" not in self.doubts
+
+    @property
     def strongest_place(self) -> tuple[float, float] | None:
         """Where it was strongest, of the windows that have a place and a level, else of those with a place."""
         return place_of_strongest(self.seen)

@@ -7,7 +7,7 @@ from __future__ import annotations
 import pathlib
 from typing import Sequence
 
-from . import machine, picture_map, survey_table, tables
+from . import carriers, machine, picture_map, survey_table, survey_windows, tables
 from .columns import BY_HEADING, meaning_of, word_meaning
 from .page import details, image, page, text
 from .page_tables import SCRIPT, STYLE, Words, report_parts, table, words_of
@@ -31,9 +31,7 @@ def page_of(found: Survey, title: str | None = None, reports: Sequence[Report] =
     parts.append(table("Cells", rows, WORDS) if rows else "<p>No cell.")
     parts += [f"<p>{text(note)}." for note in survey_table.notes_of(found)]
     parts += [part for one in survey_table.identity_reports(found) for part in report_parts(one, found)]
-    if found.is_placed:
-        says = "Map: at each place the strongest cell by letter and mark, its level by size"
-        parts += ["<h2>Map</h2>", image(picture_map.map_alone(found), says)]
+    parts += maps_of(found) if found.is_placed else []
     parts += [part for one in reports for part in report_parts(one, found)]
     is_long = sum(len(cell.seen) for cell in found.cells) > MOST
     if rows:
@@ -45,14 +43,27 @@ def page_of(found: Survey, title: str | None = None, reports: Sequence[Report] =
     return page(title or f"Survey of {found.file}", parts, STYLE)
 
 
+def maps_of(found: Survey) -> list[str]:
+    """Returns the map, of a scan that of each carrier."""
+    says = "Map: at each place the strongest cell by letter and mark, its level by size"
+    every = carriers.carriers_of(found)
+    if not every[1:]:
+        return ["<h2>Map</h2>", image(picture_map.map_alone(found), says)]
+    parts = ["<h2>Maps, one for each carrier</h2>"]
+    for one in every:
+        drawn = picture_map.map_alone(carriers.on_carrier(found, one))
+        parts += [f"<h3>{text(one.text)}</h3>", image(drawn, f"{one.text}: {says}")]
+    return parts
+
+
 def rows_of(found: Survey) -> list[dict[str, str]]:
     """Returns the rows of the table, with letters and places where there is a map, without columns that say nothing."""
     rows = survey_table.rows_of(found)
     if found.is_placed:
-        signs = picture_map.Map(found, picture_map.ALONE).signs
+        letters = survey_windows.letters_of(found)
         for i, (row, cell) in enumerate(zip(rows, found.cells)):
             place = cell.strongest_place
-            row["map"] = signs[i][0] if i in signs else ""
+            row["map"] = letters.get(i, "")
             row["strongest at"] = f"{place[1]:.6f}, {place[0]:.6f}" if place else "-"
     names = tables.saying(rows)
     first = [name for name in (*BEFORE, "PCI", "", "map") if name in names]

@@ -10,7 +10,7 @@ import string
 from dataclasses import dataclass
 from typing import Iterator, NamedTuple, Sequence
 
-from . import tables, track
+from . import carriers, tables, track
 from .arguments import SHORTEST
 from .columns import BY_KEY, Column, Value, value_of
 from .survey_data import Detected, Power, Seen, Survey, SurveyCell, SurveyIdentity, every_seen, timestamp
@@ -66,6 +66,14 @@ class Window:
     def strongest(self) -> InWindow | None:
         """The strongest listed cell that is not a false detection, or None."""
         return next(iter(self.sure), None)
+
+    @property
+    def bests(self) -> tuple[InWindow, ...]:
+        """The strongest listed cell of each carrier that is not a false detection."""
+        first: dict[float | None, InWindow] = {}
+        for one in self.sure:
+            first.setdefault(one.cell.shift, one)
+        return tuple(first.values())
 
     @property
     def leader(self) -> InWindow | None:
@@ -165,8 +173,11 @@ def leaders_of(survey: Survey) -> list[int]:
 
 
 def letters_of(survey: Survey) -> dict[int, str]:
-    """Returns by the numbers of cells the letters that they have on the map."""
-    return dict(zip(leaders_of(survey), letters()))
+    """Returns by the numbers of cells the letters that they have on the map, in a scan on that of their carrier."""
+    numbers, found = {id(cell): number for number, cell in enumerate(survey.lines)}, dict[int, str]()
+    for one in carriers.by_carrier(survey):
+        found |= {numbers[id(one.lines[number])]: letter for number, letter in zip(leaders_of(one), letters())}
+    return found
 
 
 def letters() -> Iterator[str]:

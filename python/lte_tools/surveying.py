@@ -84,6 +84,7 @@ def surveyed(options: SurveyOptions, file: RadioFile, ask: Ask) -> Survey:
     wide.inform(ask, lines)
     cells, jumps = as_one(lines)
     others = identities.joined((one for each in looked for one in each.detected), cells, jumps)
+    others, cells = identities.confirmed(others, cells)
     known = [one.power for one in looked if one.power is not None]
     powers, steps = levels.even(cells, known, options.gain, levels.rounding_of(file), others)
     is_none = all(cell.is_chance(cells) for cell in cells)

@@ -14,7 +14,7 @@ from dataclasses import dataclass
 from typing import TYPE_CHECKING, Iterable, NamedTuple, Sequence
 
 from . import programs, rates
-from .answers import Cell, Evidence
+from .answers import NOT_LISTED, Cell, Evidence
 from .cells import SeenCell
 from .columns import BLOCKS
 from .radio_file import LEAST, RadioFile
@@ -27,6 +27,7 @@ if TYPE_CHECKING:
 WINDOWS = 3  # of a cell that are asked
 PART = 0.06  # seconds of a window: at least five frames, two of them with SIB1
 NEEDS = "needs "  # begins the reason of a cell that the file does not hold
+OF_SIX = ("bandwidth", "ports")  # reasons of a list of six resource blocks that does not look for SIB1
 NEAR = 2  # samples at 1.92 million per second by which the frame start may differ
 
 
@@ -80,9 +81,17 @@ def answered(question: Question) -> Found:
         return Found(dataclasses.replace(line, no_sib1=f"{NEEDS}{BLOCKS[line.bandwidth]} MHz"))
     recording, rule = recording_of(question), rule_of(line)
     every = programs.listed(Cell, ("search", *rule.arguments, "--json"), recording, "search")
-    found = next((one for one in every if is_of(line, one)), line)
+    found = next((one for one in every if is_of(line, one)), None) or unlisted(line)
     block = None if found.sib1 is None else block_of(line, programs.evidence_of(recording, rule))
     return Found(dataclasses.replace(line, sib1=found.sib1, no_sib1=found.no_sib1), block)
+
+
+def unlisted(line: Cell) -> Cell:
+    """Returns a line with the rate at which no list has it, if its reason is that six resource blocks do not say more."""
+    if str(line.no_sib1).split(" ")[0] not in OF_SIX:
+        return line
+    rate = rates.RATES[rates.lowest(int(line.bandwidth[1:]))]
+    return dataclasses.replace(line, no_sib1=f"{NOT_LISTED}{rate}")
 
 
 def rule_of(line: Cell) -> Rule:

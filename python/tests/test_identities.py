@@ -13,12 +13,15 @@ import lte_tools
 from lte_reference import cell as reference_cell
 from lte_tools import (
     clashes,
+    columns,
     coverage,
+    doubts,
     foreign,
     identities,
     kml,
     levels,
     live,
+    pcap,
     picture_map,
     plan,
     places,
@@ -78,9 +81,51 @@ def test_another_path_of_a_listed_cell_is_no_cell():
     assert lines_of([detection(217, i, 100 + 138) for i in range(6)], listed) == ([(217, 6)], [0])
 
 
-def test_a_false_detection_takes_none():
-    listed = [dataclasses.replace(sighting(88, 0, 500, has_sib1=False), cost=900)]
-    assert lines_of([detection(88, i, 500) for i in range(3)], listed) == ([(88, 3)], [0])
+def unsure(identity, window, begin, **more):
+    """A line that is probably a false detection: one window lists it, at a high cost."""
+    return dataclasses.replace(sighting(identity, window, begin, has_sib1=False, **more), cost=900)
+
+
+def confirmed(found, listed):
+    """The identities that no list has, and the cells, with their windows and those that only detect them."""
+    cells, jumps = as_one(joined(listed))
+    others = identities.joined(sorted(found, key=lambda one: one.task.start), cells, jumps)
+    others, cells = identities.confirmed(others, cells)
+    assert [cell.is_chance(cells) for cell in cells] == [not cell.is_confirmed for cell in cells]
+    rows = [(cell.line.identity, cell.windows, len(cell.detected), doubts.doubts_of(cell, cells)) for cell in cells]
+    return [(one.seen[0].cell.identity, one.windows) for one in others], rows
+
+
+def test_an_identity_at_the_place_of_a_false_detection_is_one_row_with_it():
+    found = [detection(37, i, 500) for i in range(16)]
+    assert confirmed(found, [unsure(37, 4, 500)]) == ([], [(37, 1, 15, ("mib",))])
+
+
+@pytest.mark.parametrize(
+    "windows, begin, identity",
+    [(range(4, 5), 500, 37), (range(16), 520, 37), (range(16), 500, 40)],
+    ids=["one window alone", "another place", "another identity"],
+)
+def test_a_false_detection_stays_one(windows, begin, identity):
+    others, rows = confirmed([detection(identity, i, begin) for i in windows], [unsure(37, 4, 500)])
+    assert others == ([(identity, 16)] if len(windows) > 1 else []) and rows == [(37, 1, 0, ())]
+
+
+def test_false_detections_at_one_place_are_one_row():
+    """Two windows list the cell, each with another frame number."""
+    listed = [unsure(37, 4, 500), unsure(37, 9, 500, sfn=7)]
+    found = [detection(37, i, 500) for i in range(16)]
+    assert confirmed(found, listed) == ([], [(37, 2, 14, ("mib",))])
+
+
+def test_a_false_mib_is_no_packet(survey_json):
+    survey = Survey.from_json(survey_json)
+    (cell,) = survey.cells
+    doubtful = dataclasses.replace(survey, cells=(dataclasses.replace(cell, doubts=("mib",)),))
+    assert len(pcap.of_survey(survey)) == 1 and pcap.of_survey(doubtful) == []
+    text = survey_table.table_of(doubtful)
+    assert any(line.endswith("? MIB") for line in text) and any(line.startswith("? MIB: further") for line in text)
+    assert columns.word_meaning("", "? MIB").startswith("further windows")
 
 
 def test_frames_drift_with_the_radios_clock():

@@ -44,7 +44,9 @@ def test_page_names_each_key():
 
 def test_words_have_meanings():
     defined = foreign.schema()["$defs"]
-    patterns = [defined[name]["properties"]["none"]["pattern"].strip("^()$") for name in ("reason", "not_held")]
+    names = ("reason", "not_held", "not_listed")
+    patterns = [defined[name]["properties"]["none"]["pattern"].strip("^$") for name in names]
+    patterns = [one[1:-1] if one.startswith("(") else one for one in patterns]
     reasons = re.sub(r"\([^()]*\)", "", "|".join(patterns)).split("|")
     assert set(columns.REASONS) == {reason.split(" ")[0] for reason in reasons}
     assert list(BY_NAME) == defined["ruled"]["properties"]["rule"]["enum"]

@@ -448,6 +448,58 @@ def test_reuse_and_carriers(made, tmp_path):
     assert [(one.cell, one.other) for one in found[:2]] == [(CELLS[63], CELLS[64]), (CELLS[64], CELLS[63])]
 
 
+CROSSED = """name,pci,enodeb,sector
+North 1,63,70001,1
+North 2,64,70001,2
+North 3,33,70001,3
+Far,64,9,1
+"""
+
+
+def test_crossed_sectors_of_which_one_has_sib1(made, tmp_path):
+    """On air sector 2 has the identity of sector 3; that of sector 2 is detected without SIB1."""
+    found = findings(without_sib1(made(cells={33: CELLS[33]}), 64), CROSSED, tmp_path)
+    words = [(one.finding, one.name, one.planned_identity, one.identity, one.other_name) for one in found]
+    assert words == [
+        ("wrong-identity", "North 2", 64, 33, "North 3"),
+        ("exchanged", "North 3", 33, 64, "North 2"),
+        ("not-heard", "Far", 64, None, None),
+        ("as-planned", "North 1", 63, 63, None),
+    ]
+    assert (found[0].other, found[1].other) == (70_001 * 256 + 3, CELLS[33])
+
+
+def test_crossed_sectors_with_sib1(made, tmp_path):
+    found = findings(made(cells={64: 70_001 * 256 + 3}), CROSSED, tmp_path)
+    words = [(one.finding, one.name, one.identity, one.other_name) for one in found if one.finding != "as-planned"]
+    assert words == [
+        ("wrong-identity", "North 2", 33, "North 3"),
+        ("wrong-identity", "North 3", 64, "North 2"),
+        ("not-heard", "Far", None, None),
+    ]
+
+
+def test_an_identity_is_not_given_to_a_cell_that_has_another(made, tmp_path):
+    """Sector 2 is known to have 33, and no sector is planned with that: what has 64 is not planned."""
+    text = "name,pci,enodeb,sector\nNorth 1,63,70001,1\nNorth 2,64,70001,2\n"
+    found = findings(without_sib1(made(), 64), text, tmp_path)
+    words = [(one.finding, one.name, one.identity, one.other) for one in found]
+    assert words == [
+        ("wrong-identity", "North 2", 33, None),
+        ("not-planned", None, 64, None),
+        ("as-planned", "North 1", 63, None),
+    ]
+
+
+def test_reuse_has_the_names_of_both_cells(made, tmp_path):
+    survey = made()
+    twice = dataclasses.replace(survey.cells[2], identity=63)
+    survey = dataclasses.replace(survey, cells=(survey.cells[0], twice))
+    found = findings(survey, f"name,pci,cell\nA,63,{CELLS[63]}\nB,63,{CELLS[64]}\n", tmp_path)
+    names = [(one.name, one.other_name) for one in found if one.finding == "reuse"]
+    assert names == [("A", "B"), ("B", "A")]
+
+
 BAD_PLANS = {
     "no column identity or pci": "name,cell\na,1\n",
     "line 3: identity: '504' is not a whole number from 0 to 503": "pci\n1\n504\n",

@@ -7,12 +7,14 @@ import subprocess
 import xml.etree.ElementTree as ElementTree
 
 import numpy as np
+import pytest
 
 import lte_tools
 from lte_reference import cell as reference_cell
 from lte_reference.sib1_tshark import compare
-from lte_tools import live, radio, scan, to_ci16, wide
+from lte_tools import columns, live, picture_view, radio, radio_file, scan, to_ci16, wide
 from lte_tools.cells import joined
+from lte_tools.options import PictureOptions
 from lte_tools.radio_file import RadioFile
 from lte_tools.sightings import Task
 from tests.conftest import CELL, WIDE_RATE, as_radio, needs
@@ -148,6 +150,43 @@ def test_a_reason_at_the_bandwidth_comes_first():
     assert asked == [-40.0, -50.0, -60.0] and cell.line.no_sib1 == "not-decoded"
 
 
+def test_a_reason_of_a_list_that_has_the_cell_comes_first():
+    every = {level: reason("not-decoded" if level == -60 else "not listed at 15.36") for level in (-60.0, -40.0, -50.0)}
+    asked, cell = asked_of([-60.0, -40.0, -50.0], every)
+    assert asked == [-40.0, -50.0, -60.0] and cell.line.no_sib1 == "not-decoded"
+
+
+def test_a_reason_of_six_blocks_stays_where_their_list_looked_for_sib1(monkeypatch):
+    monkeypatch.setattr(wide.programs, "listed", lambda *words: ())
+    monkeypatch.setattr(wide, "recording_of", lambda question: None)
+    file, line = RadioFile(None, "s16", 2_400_000, 10**7, 0, 0), sighting(7, 0, 1_000, has_sib1=False).line
+    for word, blocks, then in (
+        ("not-decoded", "n6", "not-decoded"),
+        ("ports 4", "n6", "not listed at 1.92"),
+        ("bandwidth n15", "n15", "needs 3 MHz"),
+    ):
+        asked = dataclasses.replace(line, bandwidth=blocks, no_sib1=word)
+        assert wide.answered(wide.Question(Task(file, 0.1, 0.03), asked, 0.0)).line.no_sib1 == then
+
+
+def test_a_reason_at_the_bandwidth_is_in_json(survey_json):
+    for text in ("not listed at 15.36", "needs 10 MHz"):
+        survey_json["cells"][0]["sib1"] = {"none": text}
+        assert lte_tools.Survey.from_json(survey_json).cells[0].no_sib1 == text
+        assert columns.word_meaning("no SIB1", text)
+    survey_json["cells"][0]["sib1"] = {"none": "not listed at 15"}
+    with pytest.raises(lte_tools.Refused):
+        lte_tools.Survey.from_json(survey_json)
+
+
+def test_a_picture_reads_it_too(wide_file):
+    options = PictureOptions(wide_file, rate=WIDE_RATE)
+    view = picture_view.view_of(options, radio_file.opened(options))
+    (cell,) = view.cells
+    assert (cell.identity, cell.bandwidth, cell.sib1.cell) == (301, "n25", 18_905_602)
+    assert "bandwidth n25" in json.dumps(view.said)  # what the list of six blocks says
+
+
 def test_a_cell_that_the_file_does_not_hold_is_asked_once():
     asked, cell = asked_of([-60.0, -40.0], {-40.0: reason("needs 10 MHz")})
     assert asked == [-40.0] and cell.line.no_sib1 == "needs 10 MHz"
@@ -159,7 +198,8 @@ def test_a_window_of_three_frames_has_as_many_samples_as_are_needed(monkeypatch)
     monkeypatch.setattr(RadioFile, "samples", lambda file, first, count: np.ones(count - 3, complex))
     file = RadioFile(None, "s16", 9_999_999, 10**7, 0, 0)
     line = dataclasses.replace(sighting(7, 0, 1_000, has_sib1=False).line, bandwidth="n50", ports=4)
-    assert wide.answered(wide.Question(Task(file, 0.1, 0.03), line, 12.5)) == wide.Found(line)
+    unlisted = dataclasses.replace(line, no_sib1="not listed at 15.36")
+    assert wide.answered(wide.Question(Task(file, 0.1, 0.03), line, 12.5)) == wide.Found(unlisted)
     ((_, arguments, recording, _),) = asked
     assert (arguments, recording.arguments) == (("search", "--ports", "4", "--json"), ("--rate", "15.36"))
     assert len(recording.data) == 4 * 8 * 57_600
