@@ -11,6 +11,7 @@ line, or ours. Columns of CSV whose headings are not known are named by --column
 
 A level is compared after one constant for the whole list, and so are frame starts, to within the cyclic prefix, and frame
 numbers. Widths, PHICH resources, identities, carriers and cell identities are compared whatever their spelling.
+Of a recording, each cell that only THEIRS has states what lte_cli why, ids and ids --deep report at its place.
 docs/COMPARE.md says what each verdict means.
 
 Debian: for recordings python3-numpy, python3-scipy; for captures tshark.
@@ -73,8 +74,13 @@ def command() -> None:
     if given.is_input:
         raise Refused("OURS is a survey or a file of samples: - is only for THEIRS")
     theirs = read(args.theirs, args.form_of_theirs, args.columns)
-    ours = compare_lists.of_survey(survey_of(given), str(given.file))
+    survey = survey_of(given)
+    ours = compare_lists.of_survey(survey, str(given.file))
     found = compare_verdicts.comparison_of(ours, theirs, args.fields, args.tolerance)
+    if not given.is_survey:
+        from . import compare_reasons
+
+        found = compare_reasons.with_reasons(found, theirs, given, survey)
     if args.json:
         print(json.dumps(compare_outputs.json_of(found), sort_keys=True, separators=(",", ":")))
     elif args.csv:

@@ -34,6 +34,7 @@ COLUMNS: tuple[Column[Verdict, Comparison], ...] = (
         lambda one, _: f"{one.frequency / 1e6:.1f}" if one.frequency else "-",
     ),
     Column("field", "field", "", None, "the field that differs", lambda one, _: one.field, is_left=True),
+    Column("case", None, "", None, "the case of a cell that only their list has", lambda one, _: one.case),
     Column("ours", "ours", "", None, "our value", lambda one, _: one.ours),
     Column("theirs", "theirs", "", None, "their value", lambda one, _: one.theirs),
     Column(

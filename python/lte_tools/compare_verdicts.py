@@ -41,8 +41,8 @@ DIFFERENCES = ("differ", "two-lines", "theirs-only", "ours-only")
 @dataclass(frozen=True)
 class Verdict(Answer):
     """A line of the comparison: a word of VERDICTS, the `field` that differs, the cell's identity, cell identity and carrier
-    in hertz (ours if both have it), both values as texts, the `fields` that were compared and agree, a `note`, and the
-    `places` in their list."""
+    in hertz (ours if both have it), both values as texts, the `fields` that were compared and agree, a `note`, the
+    `places` in their list, and of a cell that only theirs has the `case` (compare_reasons.py), if it was asked for."""
 
     verdict: str
     field: str | None
@@ -54,6 +54,7 @@ class Verdict(Answer):
     fields: tuple[str, ...]
     note: str
     places: tuple[str, ...]
+    case: str | None = None
 
 
 @dataclass(frozen=True)
@@ -437,7 +438,7 @@ def comparison_of(
         if place in lists.twice:
             verdicts.append(twice(pair, lists.twice[place]))
     verdicts += [theirs_only(one, ours) for one in lists.their_rest]
-    verdicts += [ours_only(one) for one in lists.our_rest]
+    verdicts += [ours_only(one, ours) for one in lists.our_rest]
     compared = [name for name in fields if any(name in one.fields or name == one.field for one in verdicts)]
     return Comparison(
         ours=ours.name,
@@ -569,19 +570,30 @@ def theirs_only(theirs: Listed, ours: CellList) -> Verdict:
     return verdict(word, Pair(Listed(), theirs), None, None, (), note)
 
 
-def ours_only(ours: Listed) -> Verdict:
+def ours_only(ours: Listed, whole: CellList) -> Verdict:
     """Returns that only our list has a cell, and what supports it."""
     own, parts = ours.own, []
-    if ours.level is not None:
-        parts.append(f"level {max(one.decibels for one in ours.levels):.1f} dB")
+    if ours.levels:
+        parts.append(f"level {maximum(ours):.1f} {whole.unit or 'dB'}{under_text(ours, whole)}")
     if isinstance(own, SurveyCell):
         parts += [f"S/N {own.ratio:.1f} dB"] if own.ratio is not None else []
         parts.append(mib_text(own))
         parts += [sib1_text(own)] if own.sib1 else [f"no SIB1: {own.no_sib1}"]
     elif own is not None:
-        below = f", {own.below:.1f} dB below the strongest cell" if own.below is not None else ""
-        parts.append(f"identity only: {own.matches} of 124 signs match in {own.windows} windows{below}")
+        parts.append(f"identity only: {own.matches} of 124 signs match in {own.windows} windows")
     return verdict("ours-only", Pair(ours, Listed()), None, None, (), "; ".join(parts))
+
+
+def maximum(ours: Listed) -> float:
+    """Returns a cell's maximum level."""
+    return max(one.decibels for one in ours.levels)
+
+
+def under_text(ours: Listed, whole: CellList) -> str:
+    """Returns by how much the strongest cell of our list on the carrier is stronger, if another one is."""
+    others = [one for one in whole.cells if one.levels and is_carrier(ours, one)]
+    strongest = max(others, key=maximum)
+    return "" if strongest is ours else f", {maximum(strongest) - maximum(ours):.1f} dB below {strongest.name}"
 
 
 # ---- levels

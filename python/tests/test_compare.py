@@ -5,11 +5,13 @@ import dataclasses
 import io
 import json
 import random
+import re
 import shutil
 
+import numpy as np
 import pytest
 
-from lte_tools import compare_forms, compare_lists, compare_verdicts, places, survey_table, survey_windows
+from lte_tools import compare_forms, compare_lists, compare_verdicts, places, radio, survey_table, survey_windows
 from lte_tools.survey_data import Survey, Track
 from tests import stand_in
 from tests.conftest import EXAMPLES, is_one_line
@@ -320,6 +322,11 @@ def test_place_is_named(tool, files):
     assert "line 4: identity: 504 is not between 0 and 503" in tool("compare", *files).err
 
 
+def test_cell_of_ours_states_what_it_lies_under(ours):
+    (note,) = [one.note for one in compared(ours, data_of("csv", stand_in.planted("left out"))).verdicts if one.note]
+    assert note.startswith("level -66.0 dBFS, 14.0 dB below PCI 271; S/N 38.0 dB; our MIB bffc00")
+
+
 def test_one_cell_a_thousand_times_is_one_verdict(ours):
     data = data_of("cell_search", stand_in.truth() + [stand_in.truth()[2]] * 1_000)
     found = compared(ours, data)
@@ -339,3 +346,40 @@ def test_random_changes_are_read_or_refused(ours):
             compared(ours, mutated(draw, data_of(name, stand_in.truth())))
         except Refused as refused:
             assert "\n" not in str(refused)
+
+
+# ---- reasons
+
+FAST = ("--jobs", "1", "--offset", "0", "--every", "0.05")  # one window, and no question to lte_tune
+
+
+def reasons(run):
+    """The cases and notes of cells that only their list has, by identity."""
+    found = json.loads(run.out)
+    return {one["identity"]: (one["case"], one["note"]) for one in found["verdicts"] if one["verdict"] == "theirs-only"}
+
+
+def test_invented_cell_has_its_reason(tool, recording, tmp_path):
+    theirs = tmp_path / "theirs.csv"
+    theirs.write_text("pci,start\n217,0.0073958333\n400,0.001\n301,0.0073958333\n")
+    run = tool("compare", recording, theirs, *FAST, "--json")
+    assert run.status == 1, run.err
+    found = reasons(run)
+    assert set(found) == {400, 301}
+    assert found[400][0] == found[301][0] == "nothing-there"
+    assert "at their frame start there is no PSS detection" in found[400][1]
+    assert "at their frame start there is a PSS detection with PCI 217" in found[301][1]
+
+
+def test_weak_cell_is_heard_below_the_rule(tool, sent, tmp_path):
+    """Cell 217 in noise, in which its identity stands out and no MIB passes its CRC."""
+    draw = np.random.default_rng(11)
+    noise = draw.standard_normal((len(sent), 2)) @ (1, 1j)
+    path = tmp_path / "weak.ci16"
+    path.write_bytes(radio.to_bytes(0.3 * sent + 0.21 * radio.peak(sent) * noise))
+    theirs = tmp_path / "theirs.csv"
+    theirs.write_text("pci,ports\n217,1\n")
+    run = tool("compare", path, theirs, *FAST, "--json")
+    assert run.status == 1, run.err
+    case, note = reasons(run)[217]
+    assert case == "below-our-rule" and re.search(r"half-frames with \d+ of 124 signs", note) and "our choice" in note
