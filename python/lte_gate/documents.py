@@ -35,6 +35,7 @@ BUDGETS = {
     "docs/CLAIMS.md": 6800,
     "docs/DECISIONS.md": 5300,
     "docs/DEFINITION.md": 7700,
+    "docs/COMPARE.md": 2000,
     "docs/FORMATS.md": 13800,
     "docs/PERFORMANCE.md": 1850,
     "docs/PROOF_NOTES.md": 6350,
@@ -44,7 +45,7 @@ BUDGETS = {
 }
 EXAMPLES = TOP / "scripts/examples/outputs"
 LISTS = ("search", "search_all", "search_cancel", "evidence", "evidence_all")
-OUTPUTS = ("hits", "ids", "ids_deep", *LISTS, "why", "tell", "survey", "diff")
+OUTPUTS = ("hits", "ids", "ids_deep", *LISTS, "why", "tell", "survey", "diff", "compare")
 WORD = re.compile(r"`([^`]+)`")
 PLACE = re.compile(
     r"(?:crates/)?(?:(?:(\w+)/)?(specs|src|proofs|must-fail|wrong)/)?([\w/]+\.(?:antt|rt|edit))(?::([\w']+))?"

@@ -1,8 +1,8 @@
 """install.sh [PREFIX] [--jobs N] [--room DIR] [--deb FOLDER | --uninstall]
 
 Builds lte_cli and lte_tune, which proves them, and installs into PREFIX (~/.local if left out): both programs, the
-tools lte_survey, lte_picture, lte_diff, lte_pcap, lte_convert and lte_check_certificate, manual pages, completion for
-bash and zsh, and the documentation. zsh finds its completion if fpath has PREFIX/share/zsh/site-functions. A build
+tools lte_survey, lte_picture, lte_diff, lte_compare, lte_pcap, lte_convert and lte_check_certificate, manual pages,
+completion for bash and zsh, and the documentation. zsh finds its completion if fpath has PREFIX/share/zsh/site-functions. A build
 that was stopped goes on from where it was; a later one builds only what changed. Nothing is downloaded.
 
 --deb writes a Debian package of the same files into FOLDER instead, which installs on machines without Rattle.

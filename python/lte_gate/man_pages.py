@@ -14,6 +14,7 @@ SAYS = {
     "lte_survey": "a table of the LTE cells in a radio's file",
     "lte_picture": "what a receiver of LTE sees in a recording",
     "lte_diff": "what differs between two surveys of LTE cells",
+    "lte_compare": "our list of LTE cells against another receiver's",
     "lte_pcap": "master blocks and SIB1 of cells as packets for Wireshark",
     "lte_convert": "a recording for lte_cli from a radio's file",
     "lte_check_certificate": "a second checker of lte_cli's certificates",
@@ -25,6 +26,7 @@ SECTIONS = {
     "lte_tune": (INPUT, ("`lte_tune`", "OUTPUT"), STATUS),
     "lte_survey": (("The survey", "OUTPUT"),),
     "lte_diff": (("Two surveys", "OUTPUT"),),
+    "lte_compare": (("Two receivers", "OUTPUT"),),
 }
 EXAMPLES = {
     "lte_cli": [
@@ -45,11 +47,29 @@ EXAMPLES = {
         "lte_diff before.json after.json",
         "lte_diff before.json after.json --picture changes.png --square 100",
     ],
+    "lte_compare": [
+        "lte_compare drive.json scanner.csv",
+        "lte_compare drive.json scanner.csv --columns pci=Cell,level=Power --fields identity,level",
+        "cell_search | lte_compare recording.cu8 - --rate 2.4e6 --as srsran",
+    ],
     "lte_pcap": ["lte_cli evidence --json < recording.ci16 | lte_pcap -o packets.pcap"],
     "lte_convert": ["lte_convert u8 2.4e6 < drive.cu8 > recording.ci16"],
     "lte_check_certificate": ["lte_cli certify < recording.ci16 | lte_check_certificate"],
 }
-ASKS_PROGRAMS = ("lte_survey", "lte_picture")
+ASKS_PROGRAMS = ("lte_survey", "lte_picture", "lte_compare")
+# exit status and meaning, of tools whose own are others than STATUSES
+STATUSES = {
+    "0": "the result was written",
+    "1": "there is no result; a line on standard error says why",
+    "2": "the arguments are wrong; nothing was read",
+}
+OWN_STATUSES = {
+    "lte_compare": {
+        "0": "the lists agree",
+        "1": "the lists differ",
+        "2": "there is no result; a line on standard error says why",
+    }
+}
 PLACES = (
     "Files below `docs/` and `scripts/examples/` are installed in `../share/doc/lte_cli`, relative to these programs. "
     "Sections in quotation marks that are not on this page are in `docs/FORMATS.md` there."
@@ -158,12 +178,9 @@ def of_tool(tool):
 
 def ends_of(tool):
     """Returns the sections on a tool's exit status and environment."""
-    page = [
-        ".SH EXIT STATUS",
-        *roff.labelled("0", "the result was written"),
-        *roff.labelled("1", "there is no result; a line on standard error says why"),
-        *roff.labelled("2", "the arguments are wrong; nothing was read"),
-    ]
+    page = [".SH EXIT STATUS"]
+    for status, meaning in OWN_STATUSES.get(tool.name, STATUSES).items():
+        page += roff.labelled(status, meaning)
     if tool.name in ASKS_PROGRAMS:
         page += [
             ".SH ENVIRONMENT",

@@ -45,15 +45,15 @@ def note(text: str) -> None:
     print(f"{tool_name()}: {text}", file=sys.stderr)
 
 
-def fail(text: str) -> NoReturn:
-    """Ends the tool with one line on standard error and status 1."""
+def fail(text: str, status: int = 1) -> NoReturn:
+    """Ends the tool with one line on standard error and a status."""
     print(f"{tool_name()}: {' '.join(text.split())}".encode(errors="backslashreplace").decode(), file=sys.stderr)
-    raise SystemExit(1)
+    raise SystemExit(status)
 
 
-def run(command: Callable[[], None], *packages: str) -> None:
-    """Runs a tool's command, which needs these Python packages, and turns its refusals into one line each."""
-    check_packages(*packages)
+def run(command: Callable[[], None], *packages: str, status: int = 1) -> None:
+    """Runs a tool's command, which needs these Python packages, and turns its refusals into one line each, with a status."""
+    check_packages(*packages, status=status)
     signal.signal(signal.SIGINT, signal.default_int_handler)
     if isinstance(sys.stdout, io.TextIOWrapper):
         sys.stdout.reconfigure(errors="surrogateescape")  # names of files that are not UTF-8
@@ -61,23 +61,23 @@ def run(command: Callable[[], None], *packages: str) -> None:
         command()
         sys.stdout.flush()
     except Refused as refusal:
-        fail(str(refusal))
+        fail(str(refusal), status)
     except OSError as fault:
         if isinstance(fault, BrokenPipeError):
             os.dup2(os.open(os.devnull, os.O_WRONLY), 1)
-        fail(f"{fault.filename or 'output'}: {fault.strerror}")
+        fail(f"{fault.filename or 'output'}: {fault.strerror}", status)
     except MemoryError:
-        fail("out of memory: --every, or a shorter file, needs less")
+        fail("out of memory: --every, or a shorter file, needs less", status)
     except KeyboardInterrupt:
-        fail("stopped")
+        fail("stopped", status)
 
 
-def check_packages(*packages: str) -> None:
-    """Ends the tool if this Python does not have these packages."""
+def check_packages(*packages: str, status: int = 1) -> None:
+    """Ends the tool with a status if this Python does not have these packages."""
     missing = [package for package in packages if importlib.util.find_spec(package) is None]
     if missing:
         names = " ".join(f"python3-{package}" for package in missing)
-        fail(f"no {', no '.join(missing)} for {sys.executable} (Debian: {names}, for /usr/bin/python3)")
+        fail(f"no {', no '.join(missing)} for {sys.executable} (Debian: {names}, for /usr/bin/python3)", status)
 
 
 def check_place(path: pathlib.Path, inputs: Iterable[pathlib.Path | None] = ()) -> None:

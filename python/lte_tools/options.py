@@ -149,18 +149,8 @@ def add_file_arguments(parser: argparse.ArgumentParser, **keys: Any) -> None:
     parser.add_argument("--channel", type=int, help="of several channels of SigMF this one, from 0")
 
 
-def time_of(text: str) -> datetime.datetime:
-    """Returns a time with its zone."""
-    try:
-        return datetime.datetime.fromtimestamp(track.seconds_of(text), track.UTC)
-    except (track.BadTrack, ValueError, OverflowError, OSError) as fault:
-        raise argparse.ArgumentTypeError(str(fault)) from None
-
-
-def survey_parser(text: str | None) -> argparse.ArgumentParser:
-    """Returns the parser of lte_survey."""
-    parser = Parser(text)
-    add_file_arguments(parser, nargs="+", help="a file, or several that are one drive")
+def add_window_arguments(parser: argparse.ArgumentParser) -> None:
+    """Adds how a survey looks at a file."""
     add: Any = parser.add_argument
     add("--every", type=apart, help="seconds from one window to the next (0.17, of --scan 10)")
     add("--offset", type=number, help="hertz to take off at first, in place of what lte_tune tells")
@@ -177,6 +167,22 @@ def survey_parser(text: str | None) -> argparse.ArgumentParser:
         help="also cells far below the strongest one, of which the identity alone is read",
     )
     add("--earfcn", type=int, metavar="N", help="the cell's carrier by its number, for --carrier")
+
+
+def time_of(text: str) -> datetime.datetime:
+    """Returns a time with its zone."""
+    try:
+        return datetime.datetime.fromtimestamp(track.seconds_of(text), track.UTC)
+    except (track.BadTrack, ValueError, OverflowError, OSError) as fault:
+        raise argparse.ArgumentTypeError(str(fault)) from None
+
+
+def survey_parser(text: str | None) -> argparse.ArgumentParser:
+    """Returns the parser of lte_survey."""
+    parser = Parser(text)
+    add_file_arguments(parser, nargs="+", help="a file, or several that are one drive")
+    add: Any = parser.add_argument
+    add_window_arguments(parser)
     add(
         "--follow",
         action="store_true",

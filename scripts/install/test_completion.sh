@@ -135,7 +135,7 @@ takes() { # takes PROGRAM FORMS: the program itself refuses none of the forms' w
 
 shells=(bash)
 if command -v zsh > /dev/null; then shells+=(zsh); else echo 'left out: completion of zsh: no zsh (Debian: zsh)'; fi
-tools=(lte_survey lte_picture lte_diff lte_pcap lte_convert lte_check_certificate)
+tools=(lte_survey lte_picture lte_diff lte_compare lte_pcap lte_convert lte_check_certificate)
 for name in lte_cli lte_tune "${tools[@]}"; do
     # shellcheck source=/dev/null
     source "$here/$name.bash"
@@ -148,6 +148,7 @@ compare 'bash: lte_survey --rate' "$(offered lte_survey --rate '')" ''
 compare 'bash: lte_pcap --ea' "$(offered lte_pcap --ea)" '--earfcn'
 compare 'bash: lte_pcap --earfcn' "$(offered lte_pcap --earfcn '')" ''
 compare 'bash: lte_convert u' "$(offered lte_convert --h)" '--help'
+compare 'bash: lte_compare --as m' "$(offered lte_compare --as m)" 'matlab'
 compare 'bash: lte_picture --tu' "$(offered lte_picture --tu)" '--tune'
 if [ "${shells[1]-}" ]; then
     for name in "${tools[@]}"; do compare "zsh: _$name" "$(zsh -n "$here/_$name" 2>&1)" ''; done

@@ -14,7 +14,7 @@ from unittest import mock
 from lte_gate import debian, install
 from lte_gate.repository import TOP, Refused
 
-TOOLS = ("lte_survey", "lte_picture", "lte_diff", "lte_pcap", "lte_convert", "lte_check_certificate")
+TOOLS = ("lte_survey", "lte_picture", "lte_diff", "lte_compare", "lte_pcap", "lte_convert", "lte_check_certificate")
 
 
 class Looks(unittest.TestCase):
