@@ -36,6 +36,9 @@ BUDGETS = {
     "docs/DECISIONS.md": 5300,
     "docs/DEFINITION.md": 7700,
     "docs/FORMATS.md": 13800,
+    "docs/GLOSSARY.md": 1800,
+    "docs/PROVED.md": 1100,
+    "docs/TROUBLESHOOTING.md": 2000,
     "docs/PERFORMANCE.md": 1850,
     "docs/PROOF_NOTES.md": 6350,
     "docs/RECORDINGS.md": 6400,
@@ -223,7 +226,8 @@ def faults_of_examples(text):
 def faults_of_program_pages(text):
     """Yields a line for each block of `help` or `version`, and each definition's number, that the test lacks."""
     tested = PROGRAM_PAGES.read_text(encoding="utf-8").replace("\\n", "\n")
-    for words, lines in re.findall(r"^    \$ (lte_\w+ (?:help|version))\n((?:    .+\n)+)", text, re.M):
+    block = r"^    \$ (lte_\w+ (?:help|version))\n((?:    .+\n|\n(?=    (?!\$)))+)"
+    for words, lines in re.findall(block, text, re.M):
         if re.sub(r"^    ", "", lines, flags=re.M) not in tested:
             yield f"{words}: other lines than {PROGRAM_PAGES.relative_to(TOP)} has"
     for number in re.findall(r"\bThis is definition (\d+)", text):
