@@ -39,6 +39,7 @@ BUDGETS = {
     "docs/GLOSSARY.md": 1800,
     "docs/PROVED.md": 1100,
     "docs/TROUBLESHOOTING.md": 2000,
+    "docs/TUTORIAL.md": 1450,
     "docs/PERFORMANCE.md": 1850,
     "docs/PROOF_NOTES.md": 6350,
     "docs/RECORDINGS.md": 6400,
