@@ -30,7 +30,7 @@ HISTORY = ("CHANGELOG.md",)
 BUDGETS = {
     "README.md": 1500,
     "CONTRIBUTING.md": 2350,
-    "CHANGELOG.md": 2600,
+    "CHANGELOG.md": 3400,
     "docs/ARCHITECTURE.md": 4200,
     "docs/CLAIMS.md": 5700,
     "docs/DECISIONS.md": 5300,
