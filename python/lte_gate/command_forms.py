@@ -12,12 +12,24 @@ NUMBERS = {"PCI": "[0-9]|[1-9][0-9]|[1-4][0-9][0-9]|50[0-3]", "N": "0|[1-9][0-9]
 CHOICES = {"R": ("1.92", "3.84", "7.68", "15.36", "30.72")}
 
 
-@dataclass(frozen=True)
+GROUP = re.compile(r"([A-Z][A-Z ]+)[:,]")  # the heading of a group of options
+ITEM = re.compile(r"  (\S+(?: \S+)*)(?:  +(\S.*))?")  # its words, and their meaning or the first line of it
+GOES_ON = re.compile(r" {20,}(\S.*)")
+ONLY = re.compile(r"\((not )?(\w+(?:, \w+)*)\)$")  # the commands that take an option, or do not take it
+
+
+@dataclass
 class Option:
-    """Optional words, as `--ports 2`, and what they change."""
+    """Optional words, such as `--ports 2 | --ports 4`, and what they change."""
 
     words: str
     says: str
+
+    def is_of(self, command, commands):
+        """Returns whether the command takes the option, by the note at the end of its meaning."""
+        note = ONLY.search(self.says)
+        names = note[2].split(", ") if note else []
+        return not names or not commands.issuperset(names) or (command in names) != bool(note[1])
 
 
 @dataclass
@@ -26,35 +38,59 @@ class Form:
 
     words: str
     says: str
-    options: list[Option] = field(default_factory=list)
 
     @property
     def command(self):
         return self.words.split()[0].rstrip(",")
 
-    def sequences(self):
-        """Returns each sequence of words that the form allows, the longest first."""
-        parts = [self.choices(part) for part in re.findall(r"\[[^]]*\]|[^][]+", self.words) if part.strip()]
-        return [tuple(word for part in chosen for word in part) for chosen in itertools.product(*parts)]
 
-    def choices(self, part):
-        """Returns the alternatives of a part of the line: `[A | B]` is A, B or nothing, `A, B` is A or B."""
-        if not part.startswith("["):
-            return [tuple(words.split()) for words in part.split(", ")]
-        names = [option.words for option in self.options] if part == "[RULE]" else part[1:-1].split(" | ")
-        return [*(tuple(words.split()) for words in names), ()]
+@dataclass
+class Group:
+    """A group of options, by the name that forms have in brackets, and its heading."""
+
+    name: str
+    head: str
+    options: list[Option] = field(default_factory=list)
 
 
 @dataclass(frozen=True)
 class Program:
-    """A program, its line of usage, and its forms in the order of help."""
+    """A program, its line of usage, and its forms and groups of options in the order of help."""
 
     name: str
     usage: str
     forms: list[Form]
+    groups: list[Group]
 
     def sequences(self):
-        return [sequence for form in self.forms for sequence in form.sequences()]
+        """Returns each sequence of words that the program takes."""
+        return [sequence for form in self.forms for sequence in self.sequences_of(form)]
+
+    def sequences_of(self, form):
+        """Returns each sequence of words that the form allows, the longest first."""
+        parts = re.findall(r"\[[^]]*\](?:\.\.)?|[^][]+", form.words)
+        chosen = [choices for part in parts if part.strip() for choices in self.choices(part.strip(), form.command)]
+        return [tuple(word for part in one for word in part) for one in itertools.product(*chosen)]
+
+    def choices(self, part, command):
+        """Returns lists of alternatives for a part of a form: `[A | B]` is A, B or nothing, `A, B` is A or B, `[GROUP]` is
+        one option of the group or nothing, and `[GROUP]..` any of them, in order."""
+        if not part.startswith("["):
+            return [alternatives(part, ", ")]
+        name = part.rstrip(".")[1:-1]
+        found = next((group.options for group in self.groups if group.name == name), None)
+        if found is None:
+            return [[*alternatives(name, " | "), ()]]
+        commands = {one.command for one in self.forms}
+        options = [alternatives(one.words, " | ") for one in found if one.is_of(command, commands)]
+        if part.endswith(".."):
+            return [[*words, ()] for words in options]
+        return [[*itertools.chain(*options), ()]]
+
+
+def alternatives(text, mark):
+    """Returns the words of each alternative in a text."""
+    return [tuple(words.split()) for words in text.split(mark)]
 
 
 def found(name, pattern):
@@ -74,19 +110,30 @@ def programs():
 def program_of(text):
     """Returns the program of a help text."""
     usage, *lines = text.splitlines()
-    name = re.fullmatch(r"usage: (\w+) .*", usage)
+    name = re.fullmatch(r"usage: (\w+) [^(]*?(?: +\(.*\))?", usage)
     if not name:
         raise Refused(f"no line of usage: {usage}")
-    forms = []
+    groups: list[Group] = []
+    forms: list[Form] = []
+    rows: list[Form | Option] = []
+    options = None  # those of the group that is read
     for line in lines:
-        words, colon, says = line.partition(": ")
-        if not colon:
-            raise Refused(f"{name[1]}: a line of help without a colon: {line}")
-        if line.startswith("  "):
-            forms[-1].options.append(Option(words.strip(), says))
-        else:
-            forms.append(Form(words, says))
-    return Program(name[1], usage.removeprefix("usage: "), forms)
+        head, item, more = GROUP.match(line), ITEM.fullmatch(line), GOES_ON.fullmatch(line)
+        if line[:1].strip():
+            options = None
+        if head:
+            groups.append(Group(head[1], line))
+            options = groups[-1].options
+        elif more and rows:
+            rows[-1].says = f"{rows[-1].says} {more[1]}".strip()
+        elif item:
+            rows.append((Form if options is None else Option)(item[1], item[2] or ""))
+            (forms if options is None else options).append(rows[-1])
+        elif line.startswith(" "):
+            raise Refused(f"{name[1]}: a line of help that is no form and no option: {line}")
+    if not forms or not all(row.says for row in rows):
+        raise Refused(f"{name[1]}: a form of help without a meaning")
+    return Program(name[1], usage.removeprefix("usage: ").partition("   ")[0], forms, groups)
 
 
 def version():

@@ -30,13 +30,17 @@ HISTORY = ("CHANGELOG.md",)
 BUDGETS = {
     "README.md": 1500,
     "CONTRIBUTING.md": 2350,
-    "CHANGELOG.md": 3200,
+    "CHANGELOG.md": 3400,
     "docs/ARCHITECTURE.md": 4200,
     "docs/CLAIMS.md": 6800,
     "docs/DECISIONS.md": 5300,
     "docs/DEFINITION.md": 7700,
     "docs/COMPARE.md": 2000,
     "docs/FORMATS.md": 13800,
+    "docs/GLOSSARY.md": 1800,
+    "docs/PROVED.md": 1100,
+    "docs/TROUBLESHOOTING.md": 2000,
+    "docs/TUTORIAL.md": 1450,
     "docs/PERFORMANCE.md": 1850,
     "docs/PROOF_NOTES.md": 6350,
     "docs/RECORDINGS.md": 7200,
@@ -224,7 +228,8 @@ def faults_of_examples(text):
 def faults_of_program_pages(text):
     """Yields a line for each block of `help` or `version`, and each definition's number, that the test lacks."""
     tested = PROGRAM_PAGES.read_text(encoding="utf-8").replace("\\n", "\n")
-    for words, lines in re.findall(r"^    \$ (lte_\w+ (?:help|version))\n((?:    .+\n)+)", text, re.M):
+    block = r"^    \$ (lte_\w+ (?:help|version))\n((?:    .+\n|\n(?=    (?!\$)))+)"
+    for words, lines in re.findall(block, text, re.M):
         if re.sub(r"^    ", "", lines, flags=re.M) not in tested:
             yield f"{words}: other lines than {PROGRAM_PAGES.relative_to(TOP)} has"
     for number in re.findall(r"\bThis is definition (\d+)", text):

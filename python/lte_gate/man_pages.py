@@ -9,15 +9,15 @@ from .command_forms import version
 from .repository import TOP, Refused
 
 SAYS = {
-    "lte_cli": "LTE cells in a recording, proved",
-    "lte_tune": "the frequency offset of a recording of LTE",
-    "lte_survey": "a table of the LTE cells in a radio's file",
-    "lte_picture": "what a receiver of LTE sees in a recording",
-    "lte_diff": "what differs between two surveys of LTE cells",
-    "lte_compare": "our list of LTE cells against another receiver's",
-    "lte_pcap": "master blocks and SIB1 of cells as packets for Wireshark",
-    "lte_convert": "a recording for lte_cli from a radio's file",
-    "lte_check_certificate": "a second checker of lte_cli's certificates",
+    "lte_cli": "list the LTE cells in an I/Q recording, and the reason for each",
+    "lte_tune": "estimate and correct the frequency offset of an LTE recording",
+    "lte_survey": "list the LTE cells in a radio's I/Q file",
+    "lte_picture": "draw what an LTE receiver sees in a recording",
+    "lte_diff": "compare two surveys of LTE cells",
+    "lte_compare": "compare our list of LTE cells with another receiver's",
+    "lte_pcap": "write MIB and SIB1 of LTE cells as packets for Wireshark",
+    "lte_convert": "convert a radio's I/Q file to a recording for lte_cli",
+    "lte_check_certificate": "check certificates of lte_cli, independently",
 }
 # the sections of docs/FORMATS.md that a page has, each with its heading there
 INPUT, STATUS = ("Recordings", "RECORDINGS"), ("Exit codes", "EXIT STATUS")
@@ -79,7 +79,7 @@ PLACES = (
 def day():
     """Returns the first day of the month of the newest part of the changes."""
     text = (TOP / "CHANGELOG.md").read_text(encoding="utf-8")
-    for head in re.findall(r"^## (.+)$", text, re.M):
+    for head in re.findall(r"^## (?:.*: )?(?:\d+ )?(\w+ \d{4})$", text, re.M):
         try:
             return time.strftime("%Y-%m-%d", time.strptime(head, "%B %Y"))
         except ValueError:
@@ -122,14 +122,14 @@ def sections(name):
     for title, name_here in SECTIONS.get(name, ()):
         if title not in parts:
             raise Refused(f"docs/FORMATS.md: no section {title}")
-        part = re.sub(r"^    \$ lte_\w+ help\n(?:    .*\n)+\n", "", parts[title], flags=re.M)
+        part = re.sub(r"^    \$ lte_\w+ help\n(?:    .*\n|\n(?=    (?!\$)))+\n", "", parts[title], flags=re.M)
         page += [f".SH {name_here}", *roff.of_markdown(tool_parsers.installed(part))]
     return page
 
 
 def words_of(text):
     """Returns a form's words, with those that stand for others in italics."""
-    parts = re.split(r"\b(RULE|COMMAND|INPUT|OUTPUT|PCI|[NMR])\b", text)
+    parts = re.split(r"\b(INPUT OPTION|OPTION|LIST|COMMAND|INPUT|OUTPUT|PCI|[NMR])\b", text)
     return "".join(rf"\fI{part}\fR" if i % 2 else roff.bold(part) if part else "" for i, part in enumerate(parts))
 
 
@@ -138,11 +138,10 @@ def of_program(program):
     page = [*head(program.name), ".SH SYNOPSIS", words_of(program.usage), ".SH COMMANDS"]
     for form in program.forms:
         page += roff.labelled(words_of(form.words), form.says)
-        if form.options:
-            page.append(".RS")
-            for option in form.options:
-                page += roff.labelled(words_of(option.words), option.says)
-            page.append(".RE")
+    for group in program.groups:
+        page += [f".SH {group.name}", roff.plain(f"{group.head[len(group.name) + 1 :].strip()}.")]
+        for option in group.options:
+            page += roff.labelled(words_of(option.words), option.says)
     return "\n".join([*page, *sections(program.name), *foot(program.name)]) + "\n"
 
 

@@ -33,10 +33,23 @@ def is_near(one, other):
     return len(one) == len(other) and all(abs(a - b) <= NEAR for a, b in zip(one, other))
 
 
+def reference_of(command, *rest):
+    """Returns the module of the reference implementation for a command, and its arguments."""
+    if command in ("transmit", "why"):
+        return ["cell" if command == "transmit" else "why", *rest]
+    if command in ("tell", "apply") and not rest:
+        return ["tune", command]
+    is_text = not {"--json", "--all", "--cancel"}.intersection(rest)
+    if command == "search" and is_text:
+        *scheme, option, rate = rest if rest[-2:-1] == ("--rate",) else (*rest, "", "")
+        return ["wide_search", rate, *scheme] if option else ["search", *rest]
+    return ["evidence", *rest] if command == "evidence" and is_text else ["forms", command, *rest]
+
+
 def of_reference(name, arguments, data):
     """Returns what the reference implementation writes."""
-    module = {"transmit": "cell", "why": "why"}.get(arguments[0], "forms")
-    words = [sys.executable, "-m", f"lte_reference.{module}", *arguments[module != "forms" :]]
+    module, *rest = reference_of(*arguments)
+    words = [sys.executable, "-m", f"lte_reference.{module}", *rest]
     environment = {**os.environ, "PYTHONPATH": str(HERE.parent)}
     return subprocess.run(words, input=data, stdout=subprocess.PIPE, check=True, env=environment).stdout
 
@@ -46,6 +59,12 @@ def transmitted(name, arguments, data):
     if "sib1" not in json.loads(data):
         print(f"{name}: bad cell: no sib1", file=sys.stderr)
         return 9
+    sys.stdout.buffer.write(of_reference(name, arguments, data))
+    return 0
+
+
+def corrected(name, arguments, data):
+    """Writes a recording with its frequency offset corrected, by the reference implementation."""
     sys.stdout.buffer.write(of_reference(name, arguments, data))
     return 0
 
@@ -60,6 +79,8 @@ def main():
     (name, *arguments), data = sys.argv[1:], sys.stdin.buffer.read()
     if arguments[:1] == ["transmit"]:
         return transmitted(name, arguments, data)
+    if arguments == ["apply"]:
+        return corrected(name, arguments, data)
     if len(data) % 4 or len(data) < 4 * samples_of(arguments):
         cause = list(REFUSALS)[len(data) % 4 != 0]
         print(f"{name}: {cause}", file=sys.stderr)

@@ -4,6 +4,7 @@ import shlex
 
 from lte_reference import wide_sender
 from tests.conftest import TOP
+from tests.pages import shown
 
 README = (TOP / "README.md").read_text(encoding="utf-8")
 MODULE = "PYTHONPATH=python /usr/bin/python3 -m lte_reference.wide_sender "
@@ -11,9 +12,9 @@ MOST = 1_500  # words
 
 
 def example(page, command):
-    """Returns the arguments of a command that a page shows, and the lines below it up to the next command."""
-    (found,) = re.findall(rf"^    \$ {re.escape(command)}(.*)\n((?:    (?!\$).+\n)*)", page, re.M)
-    return shlex.split(found[0]), [line.removeprefix("    ") for line in found[1].splitlines()]
+    """Returns the arguments of a command that a page shows, and the lines below it."""
+    (found,) = [one for one in shown(page) if one.command.startswith(command)]
+    return shlex.split(found.command.removeprefix(command)), found.lines
 
 
 def test_survey_of_a_wide_cell(tool, tmp_path, monkeypatch):

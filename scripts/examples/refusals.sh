@@ -23,8 +23,8 @@ refuses() { # refuses CODE LINE PROGRAM WORD..: of standard input
     fi
 }
 
-usage='usage: the arguments match no command; the command help lists all;'
-usage+=' --rate takes 1.92, 3.84, 7.68, 15.36 or 30.72 (lte_convert converts others)'
+usage='usage: no command has these arguments; a file is read from standard input (< FILE),'
+usage+=' and options have one order (see the command help); --rate takes 1.92, 3.84, 7.68, 15.36 or 30.72'
 refuses 2 "lte_cli: $usage" "$receiver" seek < /dev/null
 refuses 2 "lte_tune: $usage" "$tuner" apply 2048 < /dev/null
 refuses 3 'lte_cli: ragged: the input ends within a sample; check the format, or cut the last bytes' "$receiver" search < <(printf '\1\0\2\0\3')

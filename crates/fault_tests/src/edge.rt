@@ -12,12 +12,12 @@ use std::test::Fail;
 
 // The lines on standard error for arguments that match no command.
 const RECEIVER_USAGE: &str =
-    "lte_cli: usage: the arguments match no command; the command help lists all; \
-    --rate takes 1.92, 3.84, 7.68, 15.36 or 30.72 (lte_convert converts others)\n";
+    "lte_cli: usage: no command has these arguments; a file is read from standard input (< FILE), \
+    and options have one order (see the command help); --rate takes 1.92, 3.84, 7.68, 15.36 or 30.72\n";
 
 const TUNER_USAGE: &str =
-    "lte_tune: usage: the arguments match no command; the command help lists all; \
-    --rate takes 1.92, 3.84, 7.68, 15.36 or 30.72 (lte_convert converts others)\n";
+    "lte_tune: usage: no command has these arguments; a file is read from standard input (< FILE), \
+    and options have one order (see the command help); --rate takes 1.92, 3.84, 7.68, 15.36 or 30.72\n";
 
 // A runtime with its own arguments, which records the text on standard error. The arguments are the parts of `line`
 // between single spaces. A question mark stands for a byte that is not UTF-8.

@@ -354,6 +354,7 @@ form_of program (word ∷ words) =
     else if is_word word (codes "apply") then apply_in words
     else if is_word word (codes "version") then Print program Version
     else if is_word word (codes "--version") then Print program Version
+    else if is_word word (codes "-V") then Print program Version
     else Print program Help
 
 form_of_page : (program : Program) (page : Page) (words : List (List ℕ)) → ArePageWords page words → form_of program words ≡ Print program page
@@ -361,7 +362,8 @@ form_of_page program Help words (inl e) = ap (form_of program) e
 form_of_page program Help words (inr (inl e)) = ap (form_of program) e
 form_of_page program Help words (inr (inr e)) = ap (form_of program) e
 form_of_page program Version words (inl e) = ap (form_of program) e
-form_of_page program Version words (inr e) = ap (form_of program) e
+form_of_page program Version words (inr (inl e)) = ap (form_of program) e
+form_of_page program Version words (inr (inr e)) = ap (form_of program) e
 
 form_of_words : (form : Form) (words : List (List ℕ)) → AreWordsOf form words → IsInRange form → form_of (program_of form) words ≡ form
 form_of_words (Reports Hits output form) words e within = ap (form_of (program_of (Reports Hits output form))) e ∙ report_back (Reports Hits) output form

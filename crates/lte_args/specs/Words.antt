@@ -123,7 +123,8 @@ BeginsWithNo {A} words_of words = (a : A) (rest : List (List ℕ)) → words ≡
 abbrev pub ArePageWords : Page → List (List ℕ) → Type 0
 ArePageWords Help words =
     (words ≡ codes "help" ∷ []) ⊎ (words ≡ codes "--help" ∷ []) ⊎ (words ≡ codes "-h" ∷ [])
-ArePageWords Version words = (words ≡ codes "version" ∷ []) ⊎ (words ≡ codes "--version" ∷ [])
+ArePageWords Version words =
+    (words ≡ codes "version" ∷ []) ⊎ (words ≡ codes "--version" ∷ []) ⊎ (words ≡ codes "-V" ∷ [])
 
 -- `words` are the arguments of a command form
 abbrev pub AreWordsOf : Form → List (List ℕ) → Type 0

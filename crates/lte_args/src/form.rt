@@ -178,7 +178,7 @@ pub enum Turn {
 pub enum Page {
     /// `help`, also `--help` and `-h`: the program's command forms.
     Help,
-    /// `version`, also `--version`: the versions of the program and of the cell list's definition.
+    /// `version`, also `--version` and `-V`: the versions of the program and of the cell list's definition.
     Version,
 }
 

@@ -327,7 +327,7 @@ pub(crate) fn page_of(words: &[String]) -> Option<Page>
 {
     if is_only(words, "help") || is_only(words, "--help") || is_only(words, "-h") {
         Some(Page::Help)
-    } else if is_only(words, "version") || is_only(words, "--version") {
+    } else if is_only(words, "version") || is_only(words, "--version") || is_only(words, "-V") {
         Some(Page::Version)
     } else {
         None

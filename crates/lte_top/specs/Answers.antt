@@ -21,8 +21,8 @@ code_of (BadCertificate place) = 10
 abbrev pub text_of : Status → List ℕ
 text_of Done = codes "done"
 text_of Usage =
-    codes "usage: the arguments match no command; the command help lists all; "
-    ++ codes "--rate takes 1.92, 3.84, 7.68, 15.36 or 30.72 (lte_convert converts others)"
+    codes "usage: no command has these arguments; a file is read from standard input (< FILE), "
+    ++ codes "and options have one order (see the command help); --rate takes 1.92, 3.84, 7.68, 15.36 or 30.72"
 text_of Ragged = codes "ragged: the input ends within a sample; check the format, or cut the last bytes"
 text_of TooShort = codes "too short: the recording has less than 30 ms (57,600 samples without --rate); record more"
 text_of TooLong =

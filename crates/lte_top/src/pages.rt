@@ -10,38 +10,70 @@ use std::fmt::Write;
 
 // The command forms of `lte_cli`.
 const RECEIVER_HELP: &str = "\
-usage: lte_cli COMMAND [RULE] [--json] [--format cu8] [--rate R] < INPUT > OUTPUT
-hits [--json] [--format cu8] [--rate R]: the places of primary synchronisation signals in a recording
-  --rate R: of the first 170 ms, at R million samples per second: 1.92, 3.84, 7.68, 15.36 or 30.72
-ids [--json] [--format cu8] [--rate R]: the same with the cell identity and the frame start that each tells
-ids --deep [all] [--json] [--format cu8] [--rate R]: the cells that are detected over the half-frames of the first 170 ms
-  all: over those of the whole recording, if there is no rate
-search [RULE] [--json] [--format cu8] [--rate R]: the list of cells of a recording
-  --ports 2: of those with two antenna ports
-  --ports 4: of those with four antenna ports
-  --prefix long: of those with the extended cyclic prefix
-  --cancel: and the lists of what is left where a cell is taken off
-  --all: the lists of one antenna port, of two, of the extended cyclic prefix, and of four antenna ports
-evidence [--ports 2 | --ports 4 | --prefix long | --all] [--json] [--format cu8] [--rate R]: what supports each listed cell
-why PCI [--ports 2 | --ports 4 | --prefix long] [--json] [--format cu8] [--rate R]: why a cell is in the list or not
-certify [--ports 2 | --ports 4 | --prefix long] [--format cu8] [--rate R]: a certificate for each cell of the list
-check: whether each of the certificates that are read is accepted
-transmit [--ports 2 | --ports 4 | --prefix long] [--load N]: the samples of the cell that is described
-  --load N: with the points of load number N at all places that it leaves open
-make N [--ports 2 | --ports 4 | --prefix long]: the list of recording number N, which is made and not read
-help, --help, -h: this page
-version, --version: the versions of the program and of its definition
+usage: lte_cli COMMAND [OPTION].. < INPUT > OUTPUT      (options in the order shown)
+
+A recording is read from standard input: 30 ms to 1 s of raw I/Q samples, centred on the cell.
+  hits [INPUT OPTION]..            PSS detections
+  ids [INPUT OPTION]..             each PSS detection with its cell identity and frame start
+  ids --deep [all] [INPUT OPTION]..
+                                   cells detected over all half-frames of the first 170 ms
+                                   (all: of the complete recording, without --rate)
+  search [LIST] [INPUT OPTION]..   the cell list, with MIB and SIB1
+  evidence [LIST] [INPUT OPTION]..
+                                   measurements that support each listed cell
+  why PCI [LIST] [INPUT OPTION]..  why a cell is listed, or the first rule that it fails
+  certify [LIST] [INPUT OPTION]..  a certificate for the MIB of each listed cell
+
+LIST: which cells are listed (default: one antenna port, normal cyclic prefix)
+  --ports 2 | --ports 4            two or four antenna ports
+  --prefix long                    extended cyclic prefix
+  --all                            all four lists (search, evidence)
+  --cancel                         the list, and a new list after each cancelled cell (search)
+
+INPUT OPTION, in this order
+  --json                           one line of JSON instead of text (not certify)
+  --format cu8                     8-bit I/Q as rtl_sdr writes it (default: signed 16-bit, low byte first)
+  --rate R                         R million samples per second: 1.92, 3.84, 7.68, 15.36 or 30.72
+                                   (default: 1.92); only the first 170 ms are then used, and search reads
+                                   SIB1 at any bandwidth, also at 1.92 (except with --cancel)
+
+Without a recording
+  check                            whether each certificate on standard input is accepted
+  transmit [--ports 2 | --ports 4 | --prefix long] [--load N]
+                                   the samples of the cell described in JSON on standard input
+                                   (--load N: with traffic number N)
+  make N [--ports 2 | --ports 4 | --prefix long]
+                                   the list of synthetic recording number N
+  help, --help, -h                 this page
+  version, --version, -V           versions of the program and of its definition
+
+Exit code: 0 if the input was read and the output written, also without a cell; else 2 to 10.
+Example: lte_cli search --json --format cu8 < recording.cu8
 ";
 
 // The command forms of `lte_tune`.
 const TUNER_HELP: &str = "\
-usage: lte_tune COMMAND [--json] [--format cu8] [--rate R] < INPUT > OUTPUT
-tell [--json] [--format cu8] [--rate R]: the frequency offset of a recording
-  --rate R: of the first 170 ms, at R million samples per second: 1.92, 3.84, 7.68, 15.36 or 30.72
-apply [--format cu8] [--rate R]: the recording with this offset taken off, in 16-bit samples
-apply M [--format cu8] [--rate R]: the recording turned by M steps of 117.1875 Hz, in 16-bit samples
-help, --help, -h: this page
-version, --version: the versions of the program and of its definition
+usage: lte_tune COMMAND [OPTION].. < INPUT > OUTPUT      (options in the order shown)
+
+A recording is read from standard input: 30 ms to 1 s of raw I/Q samples, centred on the cell.
+  tell [--json] [--format cu8] [--rate R]
+                                   the frequency offset, in steps of 117.1875 Hz
+  apply [M] [--format cu8] [--rate R]
+                                   the recording in 16-bit I/Q with its offset corrected: the estimated
+                                   offset, or M steps of 117.1875 Hz (-2048 to 2047)
+
+INPUT OPTION, in this order
+  --json                           one line of JSON instead of text (tell)
+  --format cu8                     8-bit I/Q as rtl_sdr writes it (default: signed 16-bit, low byte first)
+  --rate R                         R million samples per second: 1.92, 3.84, 7.68, 15.36 or 30.72
+                                   (default: 1.92); tell then uses only the first 170 ms
+
+Without a recording
+  help, --help, -h                 this page
+  version, --version, -V           versions of the program and of its definition
+
+Exit code: 0 if the input was read and the output written; else 2 to 8.
+Example: lte_tune apply --format cu8 < recording.cu8 | lte_cli search
 ";
 
 // Returns a page's text.

@@ -125,8 +125,8 @@ impl fmt::Display for Status {
         match self {
             Status::Done => f.write_str("done"),
             Status::Usage => f.write_str(
-                "usage: the arguments match no command; the command help lists all; \
-                 --rate takes 1.92, 3.84, 7.68, 15.36 or 30.72 (lte_convert converts others)",
+                "usage: no command has these arguments; a file is read from standard input (< FILE), \
+                 and options have one order (see the command help); --rate takes 1.92, 3.84, 7.68, 15.36 or 30.72",
             ),
             Status::Ragged => f.write_str(
                 "ragged: the input ends within a sample; check the format, or cut the last bytes",

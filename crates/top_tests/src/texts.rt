@@ -92,8 +92,8 @@ fn texts_of_answers(rt: HostRuntime) -> Result<(), Fail> {
         (
             Status::Usage,
             2,
-            "usage: the arguments match no command; the command help lists all; \
-             --rate takes 1.92, 3.84, 7.68, 15.36 or 30.72 (lte_convert converts others)",
+            "usage: no command has these arguments; a file is read from standard input (< FILE), \
+             and options have one order (see the command help); --rate takes 1.92, 3.84, 7.68, 15.36 or 30.72",
         ),
         (
             Status::Ragged,

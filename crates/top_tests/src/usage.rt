@@ -207,7 +207,9 @@ fn words_of_no_other_form_of_the_receiver(rt: HostRuntime) -> Result<(), Fail> {
         "-help",
         "--h",
         "-v",
-        "-V",
+        "-V -V",
+        "-V version",
+        "--V",
         "version --json",
         "--version --version",
     ] {

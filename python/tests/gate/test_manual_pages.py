@@ -6,21 +6,39 @@ from lte_gate.install import missing_packages
 from lte_gate.repository import Refused, TOP
 
 HELP = """\
-usage: lte_cli COMMAND
-search [RULE] [--json | --format cu8]: the list
-  --ports 2: of two antenna ports
-  --all: every list
-help, --help: this text"""
+usage: lte_cli COMMAND [OPTION]..      (in order)
+
+It reads a recording.
+  search [LIST] [FORM]..       the list
+  check [LIST] [--load N | --quiet]
+                               each certificate
+                               that is accepted
+
+LIST: which cells
+  --ports 2 | --ports 4        two or four ports
+  --all                        every list (search)
+
+FORM, in order
+  --json                       one line (not check)
+  --format cu8                 bytes
+
+Others
+  help, --help                 this text
+
+Example: lte_cli search"""
 
 
 def test_forms_of_help():
     program = command_forms.program_of(HELP)
-    assert (program.name, program.usage) == ("lte_cli", "lte_cli COMMAND")
-    assert [form.command for form in program.forms] == ["search", "help"]
-    search, shown = program.forms
-    assert len(search.sequences()) == 9 and ("search", "--ports", "2", "--format", "cu8") in search.sequences()
-    assert search.sequences()[-1] == ("search",)
-    assert shown.sequences() == [("help",), ("--help",)]
+    assert (program.name, program.usage) == ("lte_cli", "lte_cli COMMAND [OPTION]..")
+    assert [form.command for form in program.forms] == ["search", "check", "help"]
+    search, check, shown = map(program.sequences_of, program.forms)
+    assert len(search) == 16 and ("search", "--ports", "4", "--json", "--format", "cu8") in search
+    assert search[-1] == ("search",) and ("search", "--all") in search
+    assert len(check) == 9 and ("check", "--ports", "2", "--load", "N") in check
+    assert shown == [("help",), ("--help",)]
+    assert program.forms[1].says == "each certificate that is accepted"
+    assert [option.words for option in program.groups[0].options] == ["--ports 2 | --ports 4", "--all"]
 
 
 def test_table_of_columns():
@@ -39,7 +57,7 @@ def test_page_of_forms():
     assert ".SH EXIT STATUS" in page
 
 
-@pytest.mark.parametrize("text", ("", "no usage\nhelp: x", "usage: a B\nno colon"))
+@pytest.mark.parametrize("text", ("", "no usage\n  help  x", "usage: a B\n  help", "usage: a B\n   help  x"))
 def test_text_that_is_not_help(text):
     with pytest.raises((Refused, ValueError)):
         command_forms.program_of(text)

@@ -56,14 +56,6 @@ search --prefix long --format cu8 --rate R
 search --prefix long --format cu8
 search --prefix long --rate R
 search --prefix long
-search --cancel --json --format cu8 --rate R
-search --cancel --json --format cu8
-search --cancel --json --rate R
-search --cancel --json
-search --cancel --format cu8 --rate R
-search --cancel --format cu8
-search --cancel --rate R
-search --cancel
 search --all --json --format cu8 --rate R
 search --all --json --format cu8
 search --all --json --rate R
@@ -72,6 +64,14 @@ search --all --format cu8 --rate R
 search --all --format cu8
 search --all --rate R
 search --all
+search --cancel --json --format cu8 --rate R
+search --cancel --json --format cu8
+search --cancel --json --rate R
+search --cancel --json
+search --cancel --format cu8 --rate R
+search --cancel --format cu8
+search --cancel --rate R
+search --cancel
 search --json --format cu8 --rate R
 search --json --format cu8
 search --json --rate R
@@ -185,7 +185,8 @@ help
 --help
 -h
 version
---version'
+--version
+-V'
 _lte_cli() {
     local word next form given=() skips='' current=${COMP_WORDS[COMP_CWORD]}
     COMPREPLY=()

@@ -8,19 +8,20 @@ tell --format cu8 --rate R
 tell --format cu8
 tell --rate R
 tell
-apply --format cu8 --rate R
-apply --format cu8
-apply --rate R
-apply
 apply M --format cu8 --rate R
 apply M --format cu8
 apply M --rate R
 apply M
+apply --format cu8 --rate R
+apply --format cu8
+apply --rate R
+apply
 help
 --help
 -h
 version
---version'
+--version
+-V'
 _lte_tune() {
     local word next form given=() skips='' current=${COMP_WORDS[COMP_CWORD]}
     COMPREPLY=()
