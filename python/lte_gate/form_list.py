@@ -56,7 +56,7 @@ class Group:
 
     @property
     def in_crate(self):
-        """Whether the tests of faults run the group: the names of the others are in small letters."""
+        """Tells whether the tests of faults run the group: the names of the others are in small letters."""
         return self.name.isupper()
 
 
