@@ -1,17 +1,15 @@
 -- A list holds each cell that its receiver hears, and has an entry for each of which it hears the master information
 -- block.
-use Rattle.std.proofs.Common.{◌≡◌, ℕ, ◌*◌, ◌/◌, ◌%◌, ◌<◌, ◌≤◌, inl, inr, arith, refl, ap, sym, subst, ◌∙◌, append-nil, Bool, List, length, map, nat_eq, nat_le, true}
-use Rattle.std.specs.Prelude.{◌&&◌, Result}
+use Rattle.std.proofs.Common.{◌≡◌, ℕ, ◌*◌, ◌/◌, ◌%◌, ◌<◌, ◌≤◌, inl, inr, arith, refl, ap, sym, subst, ◌∙◌, append-nil, Bool, List, length, map, true}
+use Rattle.std.specs.Prelude.{Result}
 use Rattle.std.specs.List.{Contains}
 use Rattle.std.proofs.lemmas.Bool.{cases_lt}
-use Rattle.std.proofs.lemmas.Bool.Decides.{nat_tests}
 use Rattle.cs_num.specs.declared.Sample.{Sample}
 use Rattle.lte_types.specs.declared.carrier.Carrier.{Carrier}
 use Rattle.lte_types.specs.declared.carrier.Carrier.TheVariants.{OnePort, TwoPorts, FourPorts, LongPrefix}
 use Rattle.lte_types.specs.declared.sib1.Sib1.{Sib1}
 use Rattle.lte_types.specs.declared.sib1_reason.Sib1Reason.{Sib1Reason}
 use Rattle.lte_types.specs.declared.frame.Half.{Half}
-use Rattle.lte_types.specs.declared.frame.Half.TheVariants.{Zero, Five}
 use Rattle.lte_types.specs.declared.numerology.Prefix.{Prefix}
 use Rattle.lte_types.specs.Carrier.{prefix_of, ports_of}
 use Rattle.lte_types.specs.Numerology.{symbol_step}
@@ -45,8 +43,10 @@ use Rattle.cell_plan.specs.Plan.{IsSendableBy}
 use Rattle.budget.specs.Received.{in_parts}
 use Rattle.budget.proofs.Peaks.{standing_is_listed, only_hit_near_standing}
 use Rattle.clean_air.specs.Broadcast.{DecodesFreely}
-use Rattle.clean_air.specs.Clean.{system_of_carrier, IsKnownPlan, IsKnownBy, HoldsOne, IsSentEntryOf, IsMasterEntry, HoldsHeardBy, HoldsMasterBy, HoldsFaithfulBy, HoldsBy, HoldsCleanBy, IsListBy, HoldsCells}
+use Rattle.clean_air.specs.Clean.{system_of_carrier, IsKnownPlan, IsKnownBy, HoldsOne, IsSentEntryOf, IsMasterEntry, HoldsHeardBy, HoldsMasterBy, HoldsNearestBy, HoldsNearestMasterBy, HoldsFaithfulBy, HoldsBy, HoldsCleanBy, IsListBy, HoldsCells}
 use Rattle.clean_air.specs.Heard.{SentMaster, word_of_master, master_of_plan, IsTakenBy, sent_place, IsMasterHeard, IsSystemHeardBy}
+use Rattle.clean_air.specs.Near.{place_found, IsSystemRead, IsCellRead, HoldsCell}
+use Rattle.clean_air.specs.Nearest.{IsSystemNearest}
 use Rattle.clean_air.specs.HeardLaws.{FaithfulIsHeard, ThroughIsHeard}
 use Rattle.clean_air.proofs.Carrying.{sent_elements_carry}
 use Rattle.clean_air.proofs.LoadedErrors.{loaded_is_faithful}
@@ -55,7 +55,9 @@ use Rattle.clean_air.proofs.SentBlock.{IsMasterWord, is_master_word, counts_port
 use Rattle.clean_air.proofs.SentSymbols.{IsTruePlace, first_frame}
 use Rattle.clean_air.proofs.SomeSystem.{some_system}
 use Rattle.clean_air.proofs.BestPairs.{identified_by_best}
-use Rattle.clean_air.proofs.TruePlaces.{AreNear, true_hit, true_start, near_true, near_starts, same_numbers}
+use Rattle.clean_air.proofs.NearCells.{cell_entry, right_is_held, decoded_master_is_listed}
+use Rattle.clean_air.proofs.NearestWords.{nearest_master_is_decoded}
+use Rattle.clean_air.proofs.TruePlaces.{start_small, cell_is, AreNear, true_hit, true_start, near_true, near_starts, same_numbers}
 
 -- a plan that the scheme can send has its fields in range
 pub plan_known : (carrier : Carrier) (plan : CellPlan) → IsKnownBy carrier plan → IsKnownPlan plan
@@ -68,30 +70,22 @@ plan_known FourPorts plan known = known
 pub number_fits : (sfn offset : ℕ) → sfn ≤ 1023 → offset < 19200 → number_at_start sfn offset ≤ 1023
 number_fits sfn offset known within = let e = (first_frame sfn offset known within).number in omega (arith, e)
 
--- a receiver whose lists hold each cell that it hears, and what it hears: it takes the blocks of its carrier, and has
--- the plan's answer on the system information that it hears; and it hears each cell that is received through channels,
--- and each to which the recording is faithful
+-- a receiver whose lists hold each cell that it hears, and what it hears: it takes the blocks of its carrier; SIB1 that it
+-- reads is its answer; it reads SIB1 that it hears or that is nearest; and it hears each cell that is received through
+-- channels, and each to which the recording is faithful
 pub record HearsCells (receiver : Receiver) : Type 0 where
   pub single : 1 ≤ receiver.most_frames
   pub taken : is_wanted receiver.ports (ports_of receiver.carrier) ≡ true
-  pub system : (recording : List Sample) (plan : CellPlan) (sfn offset : ℕ) → 57600 ≤ length recording → (known : IsKnownBy receiver.carrier plan) →
-      IsSystemHeardBy receiver.carrier receiver.subframe recording plan sfn offset →
-      IsSystemFor receiver recording (sent_place plan.identity offset) (number_at_start sfn offset) (ports_of receiver.carrier)
-      (sent_mib (master_of_plan receiver.carrier plan) (plan_known receiver.carrier plan known).spare (number_at_start sfn offset)) (system_of_carrier receiver.carrier plan.sib1)
+  pub answer : (recording : List Sample) (plan : CellPlan) (place : Place) (number : ℕ) → 57600 ≤ length recording → place.start < 19200 → (known : IsKnownBy receiver.carrier plan) →
+      IsSystemRead receiver.subframe recording plan place number →
+      IsSystemFor receiver recording place number (ports_of receiver.carrier)
+      (sent_mib (master_of_plan receiver.carrier plan) (plan_known receiver.carrier plan known).spare number) (system_of_carrier receiver.carrier plan.sib1)
+  pub heard : (recording : List Sample) (plan : CellPlan) (sfn offset : ℕ) → IsKnownBy receiver.carrier plan → IsSystemHeardBy receiver.carrier receiver.subframe recording plan sfn offset →
+      IsSystemRead receiver.subframe recording plan (sent_place plan.identity offset) (number_at_start sfn offset)
+  pub nearest : (recording : List Sample) (plan : CellPlan) (place : Place) (number : ℕ) → IsKnownBy receiver.carrier plan → IsSystemNearest receiver.subframe recording plan place number →
+      IsSystemRead receiver.subframe recording plan place number
   pub through : ThroughIsHeard receiver
   pub faithful : FaithfulIsHeard receiver
-
--- consequences of two entries belonging to one cell
-record IsOneCell (m n gap : ℕ) : Type 0 where
-  id : m ≡ n
-  near : gap ≤ 9
-
-cell_is : (m n gap : ℕ) → (nat_eq m n && nat_le gap 9) ≡ true → IsOneCell m n gap
-cell_is m n gap e = record { id = grind (arith, nat_tests); near = grind (arith, nat_tests) }
-
-start_small : (t : ℕ) (half : Half) → start_by_hit t half < 19200
-start_small t Zero = omega arith
-start_small t Five = omega arith
 
 step_fits : (carrier : Carrier) → symbol_step (prefix_of carrier) ≤ 832
 step_fits OnePort = omega arith
@@ -299,7 +293,7 @@ module _ (receiver : Receiver) (hears : HearsCells receiver) (recording : List S
       let master = master_of_plan receiver.carrier plan in
       let takes : IsTakenBy receiver master = record { count = counts_ports receiver.carrier; taken = hears.taken; spare = (plan_known receiver.carrier plan known).spare } in
       heard_is_held receiver recording plan.identity master sfn offset long hears.single takes heard.master (system_of_carrier receiver.carrier plan.sib1)
-      (hears.system recording plan sfn offset long known heard.system) list listed (IsSentEntryOf receiver.carrier plan (number_at_start sfn offset))
+      (hears.answer recording plan (sent_place plan.identity offset) (number_at_start sfn offset) long (omega arith) known (hears.heard recording plan sfn offset known heard.system)) list listed (IsSentEntryOf receiver.carrier plan (number_at_start sfn offset))
       (record { ports = refl; block = record { bandwidth = refl; duration = refl; resource = refl; upper = refl; spare = refl }; sib1 = refl; cost = refl; frames = refl; frame = refl })
 
   -- and has an entry for each whose master information block is
@@ -310,11 +304,42 @@ module _ (receiver : Receiver) (hears : HearsCells receiver) (recording : List S
       heard_is_held receiver recording identity master sfn offset long hears.single takes heard sib1 system list listed (IsMasterEntry master (number_at_start sfn offset))
       (record { ports = refl; block = record { bandwidth = refl; duration = refl; resource = refl; upper = refl; spare = refl }; cost = refl; frames = refl; frame = refl })
 
+  -- and each cell that is read at each detection near one
+  holds_read : (plan : CellPlan) (number t : ℕ) (half : Half) → IsKnownBy receiver.carrier plan → IsCellRead receiver recording plan number t half →
+      HoldsCell list plan.identity (start_by_hit t half) number (master_of_plan receiver.carrier plan) (λ entry. entry.sib1 ≡ system_of_carrier receiver.carrier plan.sib1)
+  holds_read plan number t half known read =
+      let master : SentMaster = master_of_plan receiver.carrier plan in
+      let spare = (plan_known receiver.carrier plan known).spare in
+      let takes : IsTakenBy receiver master = record { count = counts_ports receiver.carrier; taken = hears.taken; spare = spare } in
+      let has = cell_entry receiver recording plan.identity master number t half hears.single long takes read.master list listed in
+      let right = has.right in
+      let place : Place = place_found plan.identity right.u right.half in
+      right_is_held has (λ entry. entry.sib1 ≡ system_of_carrier receiver.carrier plan.sib1)
+      (one_system receiver recording place has.entry.sfn master.ports (sent_mib master spare has.entry.sfn) has.entry.sib1 (system_of_carrier receiver.carrier plan.sib1) right.system
+      (hears.answer recording plan place has.entry.sfn long (start_small right.u right.half) known (read.system right.u right.half has.entry.sfn right.found)))
+
+  -- thus each that is nearest
+  pub holds_nearest : HoldsNearestBy receiver recording list
+  holds_nearest plan number t half known near =
+      let takes : IsTakenBy receiver (master_of_plan receiver.carrier plan) = record { count = counts_ports receiver.carrier; taken = hears.taken; spare = (plan_known receiver.carrier plan known).spare } in
+      holds_read plan number t half known (record {
+        master = nearest_master_is_decoded receiver recording plan.identity (master_of_plan receiver.carrier plan) number t half takes near.master;
+        system = λ u other m found. hears.nearest recording plan (place_found plan.identity u other) m known (near.system u other m found);
+      })
+
+  -- and each of which the MIB is
+  pub holds_nearest_masters : HoldsNearestMasterBy receiver recording list
+  holds_nearest_masters identity master number t half takes near =
+      decoded_master_is_listed receiver recording list identity master number t half hears.single long takes
+      (nearest_master_is_decoded receiver recording identity master number t half takes near) listed
+
 -- so does the list of each recording, and it holds what is heard by a law
 pub heard_are_held : (receiver : Receiver) → HearsCells receiver → HoldsCells receiver
 heard_are_held receiver hears recording list long listed = record {
   heard = heard;
   master = holds_masters receiver hears recording list long listed;
+  nearest = holds_nearest receiver hears recording list long listed;
+  nearest_master = holds_nearest_masters receiver hears recording list long listed;
   through = λ plan grids sfn offset known through. heard plan sfn offset known (hears.through recording plan grids sfn offset known through);
   faithful = λ plan grids sfn offset gains known faithful. heard plan sfn offset known (hears.faithful recording plan grids sfn offset gains known faithful);
 }
@@ -348,6 +373,8 @@ is_list_by receiver holds recording list long listed =
       explained = listed;
       heard = seen.heard;
       master = seen.master;
+      nearest = seen.nearest;
+      nearest_master = seen.nearest_master;
       through = seen.through;
       faithful = seen.faithful;
       loaded = loaded;

@@ -36,7 +36,8 @@ use Rattle.clean_air.proofs.FaithfulCells.{faithful_is_through}
 use Rattle.clean_air.proofs.FadingCells.{fading_is_through}
 use Rattle.clean_air.proofs.EchoCells.{echoes_are_through}
 use Rattle.clean_air.proofs.SentSystem.{system_heard}
-use Rattle.clean_air.proofs.SpokenSystem.{slots_are_read}
+use Rattle.clean_air.proofs.NearestWords.{nearest_system_is_read}
+use Rattle.clean_air.proofs.SpokenSystem.{heard_system_is_read, read_system_is_answer}
 
 -- signals that are received through a channel give the identity, with either prefix
 pub shown_identity_is_best : ShownIdentityIsBest
@@ -110,7 +111,9 @@ hears_cells : HearsCells one_port_receiver
 hears_cells = record {
   single = omega arith;
   taken = refl;
-  system = λ recording plan sfn offset long sendable heard. slots_are_read OnePort refl placed_values recording plan sfn offset long sendable heard;
+  answer = read_system_is_answer OnePort placed_values;
+  heard = heard_system_is_read OnePort refl placed_values;
+  nearest = nearest_system_is_read OnePort placed_values;
   through = through_cell_is_heard;
   faithful = faithful_cell_is_heard;
 }

@@ -51,6 +51,10 @@ pub mod SpokenSystem
 pub mod SentSystem
 -- A receiver has some answer on the system information of each cell.
 pub mod SomeSystem
+-- The receiver decodes the words that are nearest to the soft values.
+pub mod NearestWords
+-- A list has a right entry of each cell that is read at each detection near one.
+pub mod NearCells
 -- A list holds each cell that its receiver hears.
 pub mod Held
 -- All together: a receiver of one port hears each cell that is received through channels, so its list holds it.

@@ -1,11 +1,12 @@
 -- Values of subframe 5 that have the signs of a plan's bits: they are read with its indicator and its grant, and say
 -- its fields.
-use Rattle.std.proofs.Common.{◌≡◌, ℕ, ◌+◌, ◌%◌, ◌≤◌, inl, true, List, length, Ok, refl, arith}
+use Rattle.std.proofs.Common.{◌≡◌, ℕ, ◌+◌, ◌%◌, ◌<◌, ◌≤◌, inl, true, List, length, Ok, refl, arith}
 use Rattle.std.proofs.lemmas.Bool.{leb-true, false≢true}
 use Rattle.cs_num.specs.declared.Sample.{Sample}
 use Rattle.lte_types.specs.declared.carrier.Carrier.{Carrier}
 use Rattle.lte_types.specs.declared.carrier.Carrier.TheVariants.{OnePort, TwoPorts, LongPrefix, FourPorts}
 use Rattle.lte_types.specs.Carrier.{ports_of, has_control_by}
+use Rattle.lte_types.specs.CellPlace.{Place}
 use Rattle.lte_types.specs.Timing.{number_at_start}
 use Rattle.turbo_code.specs.declared.rows.Row.{Row}
 use Rattle.erasure.specs.Known.{resolvable, sent_of}
@@ -26,6 +27,7 @@ use Rattle.cell_grid.specs.Control.{version_of, grant_of}
 use Rattle.cell_grid.proofs.Grants.{version-fits, grant_is}
 use Rattle.clean_air.specs.Attempt.{IsReadWith}
 use Rattle.clean_air.specs.Heard.{sent_place, master_of_plan, IsSystemHeard, IsSystemHeardBy}
+use Rattle.clean_air.specs.Near.{IsSystemRead}
 use Rattle.clean_air.proofs.Controls.{four_elements, spoken_grant_is_read}
 use Rattle.clean_air.proofs.SentBlock.{sent_mib}
 use Rattle.clean_air.proofs.SentFields.{fields_said}
@@ -61,14 +63,18 @@ module _ (carrier : Carrier) (control : has_control_by carrier ≡ true) (values
   pub spoken_fields_read : Reads values (Ok plan.sib1)
   spoken_fields_read = spoken_grant_read.reads (Ok plan.sib1) says_fields
 
--- so they are the answer of a receiver that reads both slots of subframe 5
-pub slots_are_read : (carrier : Carrier) → has_control_by carrier ≡ true → (by : Valuing) (recording : List Sample) (plan : CellPlan) (sfn offset : ℕ) → 57600 ≤ length recording →
-    (sendable : IsSendableBy carrier plan) → IsSystemHeardBy carrier (Ok (subframes_by carrier by)) recording plan sfn offset →
-    IsSystemWith carrier (Ok (subframes_by carrier by)) recording (sent_place plan.identity offset) (number_at_start sfn offset) (ports_of carrier)
-    (sent_mib (master_of_plan carrier plan) sendable.spare (number_at_start sfn offset)) (Ok plan.sib1)
-slots_are_read carrier control by recording plan sfn offset long sendable heard =
+-- so a receiver that reads both slots of subframe 5 reads the plan's SIB1
+pub heard_system_is_read : (carrier : Carrier) → has_control_by carrier ≡ true → (by : Valuing) (recording : List Sample) (plan : CellPlan) (sfn offset : ℕ) → IsSendableBy carrier plan →
+    IsSystemHeardBy carrier (Ok (subframes_by carrier by)) recording plan sfn offset → IsSystemRead (Ok (subframes_by carrier by)) recording plan (sent_place plan.identity offset) (number_at_start sfn offset)
+heard_system_is_read carrier control by recording plan sfn offset sendable heard =
     let first : ℕ = number_at_start sfn offset in
     let j : ℕ = even_frame first 0 in
     let elements = four_elements plan.identity plan.cfi plan.duration plan.resource sendable.cfi.0 sendable.cfi.1 in
-    decoded_at_first carrier (subframes_by carrier by) recording (sent_place plan.identity offset) first (sent_mib (master_of_plan carrier plan) sendable.spare first) plan.sib1 long (omega arith) refl
-    (spoken_fields_read carrier control (subframes_by carrier by recording (sent_place plan.identity offset) j plan.duration plan.resource) plan ((first + j) % 1024) sendable elements heard)
+    spoken_fields_read carrier control (subframes_by carrier by recording (sent_place plan.identity offset) j plan.duration plan.resource) plan ((first + j) % 1024) sendable elements heard
+
+-- and SIB1 that is read is the receiver's answer
+pub read_system_is_answer : (carrier : Carrier) (by : Valuing) (recording : List Sample) (plan : CellPlan) (place : Place) (number : ℕ) → 57600 ≤ length recording → place.start < 19200 →
+    (sendable : IsSendableBy carrier plan) → IsSystemRead (Ok (subframes_by carrier by)) recording plan place number →
+    IsSystemWith carrier (Ok (subframes_by carrier by)) recording place number (ports_of carrier) (sent_mib (master_of_plan carrier plan) sendable.spare number) (Ok plan.sib1)
+read_system_is_answer carrier by recording plan place number long early sendable read =
+    decoded_at_first carrier (subframes_by carrier by) recording place number (sent_mib (master_of_plan carrier plan) sendable.spare number) plan.sib1 long early refl read

@@ -1,6 +1,8 @@
 -- Positions of primary signals and epochs of entries, each modulo its period.
-use Rattle.std.proofs.Common.{◌≡◌, ℕ, ◌+◌, ◌-◌, ◌*◌, ◌/◌, ◌%◌, ◌<◌, ◌≤◌, ◌⊎◌, inl, inr, arith, subst}
+use Rattle.std.proofs.Common.{◌≡◌, ℕ, ◌+◌, ◌-◌, ◌*◌, ◌/◌, ◌%◌, ◌<◌, ◌≤◌, ◌⊎◌, inl, inr, arith, subst, true, nat_eq, nat_le}
+use Rattle.std.specs.Prelude.{◌&&◌}
 use Rattle.std.proofs.lemmas.Bool.{cases_lt}
+use Rattle.std.proofs.lemmas.Bool.Decides.{nat_tests}
 use Rattle.lte_types.specs.declared.frame.Half.{Half}
 use Rattle.lte_types.specs.declared.frame.Half.TheVariants.{Zero, Five}
 use Rattle.lte_types.specs.Timing.{start_of}
@@ -149,3 +151,18 @@ module _ (a b m n : ℕ) (start : a < 19200) (other : b < 19200) (number : m < 1
       (subst (λ x. ((x + 19200 * ((1024 - m) % 1024) - (b + 19200 * ((1024 - n) % 1024))) + (b + 19200 * ((1024 - n) % 1024) - (x + 19200 * ((1024 - m) % 1024))) ≤ 9)
       ⊎ (19660791 ≤ (x + 19200 * ((1024 - m) % 1024) - (b + 19200 * ((1024 - n) % 1024))) + (b + 19200 * ((1024 - n) % 1024) - (x + 19200 * ((1024 - m) % 1024))))) e on_circle) in
       omega (arith, k, number, other_number)
+
+-- ---- entries
+
+-- a detection's first frame begins within one frame
+pub start_small : (t : ℕ) (half : Half) → start_by_hit t half < 19200
+start_small t Zero = omega arith
+start_small t Five = omega arith
+
+-- consequences of two entries belonging to one cell
+pub record IsOneCell (m n gap : ℕ) : Type 0 where
+  pub id : m ≡ n
+  pub near : gap ≤ 9
+
+pub cell_is : (m n gap : ℕ) → (nat_eq m n && nat_le gap 9) ≡ true → IsOneCell m n gap
+cell_is m n gap e = record { id = grind (arith, nat_tests); near = grind (arith, nat_tests) }

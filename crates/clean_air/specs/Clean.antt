@@ -6,6 +6,7 @@ use Rattle.cs_num.specs.declared.Sample.{Sample}
 use Rattle.lte_types.specs.declared.bandwidth.Bandwidth.TheVariants.{N6}
 use Rattle.lte_types.specs.declared.carrier.Carrier.{Carrier}
 use Rattle.lte_types.specs.declared.duration.Duration.{Duration}
+use Rattle.lte_types.specs.declared.frame.Half.{Half}
 use Rattle.lte_types.specs.declared.resource.Resource.{Resource}
 use Rattle.lte_types.specs.declared.sib1.Sib1.{Sib1}
 use Rattle.lte_types.specs.declared.sib1_reason.Sib1Reason.{Sib1Reason}
@@ -15,6 +16,7 @@ use Rattle.lte_types.specs.Block.{HasFields}
 use Rattle.lte_types.specs.Carrier.{prefix_of, ports_of, has_control_by}
 use Rattle.lte_types.specs.Numerology.{least_samples, is_extended}
 use Rattle.lte_types.specs.Timing.{start_of, number_at_start}
+use Rattle.sss_detect.specs.Place.{start_by_hit}
 use Rattle.explain.specs.Receiver.{Receiver, one_port_receiver}
 use Rattle.explain.specs.Entries.{IsListFor}
 use Rattle.cell_grid.specs.declared.antenna.Port.{Port}
@@ -25,7 +27,9 @@ use Rattle.cell_tx.specs.Emission.{IsCleanBy}
 use Rattle.clean_air.specs.Load.{IsLoadedBy}
 use Rattle.clean_air.specs.Faithful.{IsFaithfulBy}
 use Rattle.clean_air.specs.Through.{IsSeenThroughBy}
-use Rattle.clean_air.specs.Heard.{SentMaster, IsTakenBy, IsMasterHeard, IsHeardBy}
+use Rattle.clean_air.specs.Heard.{SentMaster, master_of_plan, IsTakenBy, IsMasterHeard, IsHeardBy}
+use Rattle.clean_air.specs.Near.{HoldsCell}
+use Rattle.clean_air.specs.Nearest.{IsMasterNearest, IsCellNearest}
 
 -- ---- the plan that is sent
 
@@ -112,6 +116,23 @@ HoldsMasterBy receiver recording list =
     HoldsOne list identity (start_of offset) (number_at_start sfn offset)
     (IsMasterEntry master (number_at_start sfn offset))
 
+-- `list` contains each cell that is nearest at one PSS detection, and at each detection that gives the cell near it, for
+-- any known plan, with the scheme's SIB1 result. Soft values may have wrong signs.
+abbrev pub HoldsNearestBy : Receiver → List Sample → List Entry → Type 0
+HoldsNearestBy receiver recording list =
+    (plan : CellPlan) (number t : ℕ) (half : Half) → IsKnownBy receiver.carrier plan →
+    IsCellNearest receiver recording plan number t half →
+    HoldsCell list plan.identity (start_by_hit t half) number (master_of_plan receiver.carrier plan)
+    (λ entry. entry.sib1 ≡ system_of_carrier receiver.carrier plan.sib1)
+
+-- `list` contains each cell whose MIB, of any bandwidth, is nearest in this way, and whose antenna port count the
+-- receiver accepts. Nothing is required of the cell's SIB1.
+abbrev pub HoldsNearestMasterBy : Receiver → List Sample → List Entry → Type 0
+HoldsNearestMasterBy receiver recording list =
+    (identity : ℕ) (master : SentMaster) (number t : ℕ) (half : Half) → IsTakenBy receiver master →
+    IsMasterNearest receiver recording identity master number t half →
+    HoldsCell list identity (start_by_hit t half) number master (λ entry. Unit {0})
+
 -- `list` contains each cell of a transmission scheme to which the recording is faithful, for any known plan, elements
 -- outside the plan, first frame number, offset and gains
 abbrev pub HoldsFaithfulBy : Carrier → List Sample → List Entry → Type 0
@@ -145,10 +166,12 @@ HoldsCleanBy carrier recording list =
     HoldsCellBy carrier list plan (start_of offset) (number_at_start sfn offset)
 
 -- `list` is the defined cell list of the recording (`explained`). It contains each cell of the receiver's scheme and
--- each MIB that the receiver hears, and each cell that is received through channels, to which the recording is
--- faithful, or for which the recording is clean.
+-- each MIB that the receiver hears or that is nearest, and each cell that is received through channels, to which the
+-- recording is faithful, or for which the recording is clean.
 pub record IsListBy (receiver : Receiver) (recording : List Sample) (list : List Entry) : Type 0 where
   pub explained : IsListFor receiver recording list
+  pub nearest : HoldsNearestBy receiver recording list
+  pub nearest_master : HoldsNearestMasterBy receiver recording list
   -- for the four receivers, the clauses after `master` follow from `heard` by laws
   pub heard : HoldsHeardBy receiver recording list
   pub master : HoldsMasterBy receiver recording list
@@ -161,16 +184,19 @@ pub record IsListBy (receiver : Receiver) (recording : List Sample) (list : List
 abbrev pub IsListOfCells : List Sample → List Entry → Type 0
 IsListOfCells = IsListBy one_port_receiver
 
--- `list` contains each cell of the receiver's scheme and each MIB that the receiver hears, and each cell that is
--- received through channels or to which the recording is faithful
+-- `list` contains each cell of the receiver's scheme and each MIB that the receiver hears or that is nearest, and each
+-- cell that is received through channels or to which the recording is faithful
 pub record HoldsSeenBy (receiver : Receiver) (recording : List Sample) (list : List Entry) : Type 0 where
+  pub nearest : HoldsNearestBy receiver recording list
+  pub nearest_master : HoldsNearestMasterBy receiver recording list
   pub heard : HoldsHeardBy receiver recording list
   pub master : HoldsMasterBy receiver recording list
   pub through : HoldsThroughBy receiver.carrier recording list
   pub faithful : HoldsFaithfulBy receiver.carrier recording list
 
 -- a law: for a recording of at least 57,600 samples, the list of `receiver` contains each cell of its scheme and each
--- MIB that the receiver hears, and each cell that is received through channels or to which the recording is faithful
+-- MIB that the receiver hears or that is nearest, and each cell that is received through channels or to which the
+-- recording is faithful
 abbrev pub HoldsCells : Receiver → Type 0
 HoldsCells receiver =
     (recording : List Sample) (list : List Entry) → least_samples ≤ length recording →

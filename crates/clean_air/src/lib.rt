@@ -13,6 +13,7 @@ mod clean;
 mod control;
 mod heard;
 mod load;
+mod near;
 mod planning;
 mod subframe;
 mod through;
@@ -26,6 +27,7 @@ pub use clean::{CleanReader, explain_clean, explain_clean_by};
 pub use control::{sent_grant_is_decoded, sent_grant_is_read, sent_indicator_is_decoded};
 pub use heard::cells_are_heard;
 pub use load::{loaded_is_faithful, open_places_are_silent};
+pub use near::{decoded_masters_are_listed, nearest_masters_are_decoded};
 pub use planning::{faithful_entry_has_plan, one_plan, plan_granted, plan_of, sent_entry_has_plan};
 pub use subframe::carried_blocks_are_heard;
 pub use through::{

@@ -58,7 +58,9 @@ hears_cells : HearsCells long_prefix_receiver
 hears_cells = record {
   single = omega arith;
   taken = refl;
-  system = λ recording plan sfn offset long known heard. refl;
+  answer = λ recording plan place number long early known read. refl;
+  heard = λ recording plan sfn offset known heard. tt;
+  nearest = λ recording plan place number known near. tt;
   through = λ recording plan grids sfn offset known through. absurd through;
   faithful = faithful_cell_is_heard;
 }

@@ -14,7 +14,8 @@ use Rattle.clean_air.specs.HeardLaws.{FaithfulIsHeard}
 use Rattle.clean_air.proofs.Held.{HearsCells, number_fits, heard_are_held}
 use Rattle.clean_air.proofs.HeldCells.{faithful_master_is_heard}
 use Rattle.clean_air.proofs.SentBlock.{same_word}
-use Rattle.clean_air.proofs.SpokenSystem.{slots_are_read}
+use Rattle.clean_air.proofs.NearestWords.{nearest_system_is_read}
+use Rattle.clean_air.proofs.SpokenSystem.{heard_system_is_read, read_system_is_answer}
 use Rattle.two_ports.specs.Entries.{two_ports_receiver}
 use Rattle.two_ports.proofs.Master.{word_speaks}
 use Rattle.two_ports.proofs.ReceivedPairs.{received_pair_speaks}
@@ -39,7 +40,9 @@ hears_cells : HearsCells two_ports_receiver
 hears_cells = record {
   single = omega arith;
   taken = refl;
-  system = λ recording plan sfn offset long sendable heard. slots_are_read TwoPorts refl (paired_by over_two) recording plan sfn offset long sendable heard;
+  answer = read_system_is_answer TwoPorts (paired_by over_two);
+  heard = heard_system_is_read TwoPorts refl (paired_by over_two);
+  nearest = nearest_system_is_read TwoPorts (paired_by over_two);
   through = λ recording plan grids sfn offset sendable through. absurd through;
   faithful = faithful_cell_is_heard;
 }
