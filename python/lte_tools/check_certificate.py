@@ -1,7 +1,7 @@
 #!/usr/bin/python3
 """lte_check_certificate < CERTIFICATES
 
-Checks certificates as `lte_cli check` does, by an independent implementation, written from docs/FORMATS.md alone. Prints
+Checks certificates as `lte_cli check` does, by an independent implementation, written from docs/CERTIFICATES.md alone. Prints
 what `lte_cli check` prints, or `bad certificate at byte N` on standard error.
 
     lte_cli certify < recording.ci16 | lte_check_certificate
