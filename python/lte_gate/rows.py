@@ -455,7 +455,7 @@ def numpy_looks():
         Look(EMISSIONS, f"$PY -m lte_reference.cell {words}", table_and_sums(name), described(**keys), False)
         for name, keys, words in SENT_FORMS
     ]
-    found += [*shown("README.md"), *shown("docs/FORMATS.md")]
+    found += [look for page in ("README.md", "docs/FORMATS.md", "docs/SYNTHETIC.md") for look in shown(page)]
     found += of_forms(PLAIN, PLAIN_FORMS)
     found += of_forms(f"{{ {PLAIN}; $PY -m lte_reference.two_ports 90; }}", [("ids --deep", TESTS + "deep.rt")])
     found += of_forms(f"for i in 1 2 3 4 5 6; do {PLAIN}; done", LONG_FORMS)

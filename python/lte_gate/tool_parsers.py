@@ -34,7 +34,7 @@ class Tool:
 
     def about(self):
         """Returns the paragraphs of its text except the first, which is its usage."""
-        parts = self.parser.description.split("\n\n")[1:]
+        parts = self.parser.text.split("\n\n")[1:]
         return [" ".join(installed(part).split()) for part in parts if not part.startswith("    ")]
 
 

@@ -1,9 +1,13 @@
 #!/usr/bin/python3
-"""add_noise.py RATIO [SEED] < RECORDING > RECORDING
+"""python3 -m lte_tools.add_noise RATIO [SEED] < RECORDING > RECORDING
 
-Adds white noise so that a reference element of the strongest cell has this Es/N0 in dB. The element is that which
-`lte_cli evidence` measures; what noise it has already is left out of it, and stays. The same SEED (1) gives the same
-noise. Each component is rounded, and kept within 16 bits: where that cuts more than one in 10,000, it is said.
+Adds white noise, so that a reference element of the strongest cell has an Es/N0 of RATIO dB.
+
+The element is the one that `lte_cli evidence` measures; the noise that it already has is not counted, and stays. The
+same SEED (1) gives the same noise. Each component is rounded and limited to 16 bits; if that changes more than one in
+10,000, a note says so.
+
+    python3 -m lte_tools.add_noise 10 < recording.ci16 > noisy.ci16
 
 Debian: python3-numpy. Needs lte_cli (README, "Build").
 """
@@ -28,7 +32,7 @@ def element_of(data: bytes) -> float:
 
 def parser() -> argparse.ArgumentParser:
     """Returns the parser of the arguments."""
-    parser = Parser(__doc__)
+    parser = Parser(__doc__, brief=True)
     parser.add_argument("ratio", metavar="RATIO", type=number, help="Es/N0 in dB")
     parser.add_argument("seed", metavar="SEED", nargs="?", type=int, default=1)
     return parser

@@ -1,8 +1,12 @@
 #!/usr/bin/env python3
-"""add_recordings.py FIRST SECOND [LATER] > SUM: two recordings of any lengths, added component by component.
+"""python3 -m lte_tools.add_recordings FIRST SECOND [LATER] > SUM
 
-The second begins LATER samples after the first (0), or before it where that is negative; where one is not, the other
-stays as it is. A sum that 16 bits do not hold is an error.
+Adds two recordings of any lengths, component by component.
+
+SECOND begins LATER samples after FIRST (0), or before it if LATER is negative; where one has no samples, the other stays
+as it is. A sum that does not fit 16 bits is an error.
+
+    python3 -m lte_tools.add_recordings a.ci16 b.ci16 5000 > both.ci16
 """
 from __future__ import annotations
 
@@ -35,7 +39,7 @@ def placed(numbers: array.array[int], before: int, count: int) -> array.array[in
 
 def parser() -> argparse.ArgumentParser:
     """Returns the parser of the arguments."""
-    parser = Parser(__doc__)
+    parser = Parser(__doc__, brief=True)
     parser.add_argument("first", metavar="FIRST", type=pathlib.Path)
     parser.add_argument("second", metavar="SECOND", type=pathlib.Path)
     parser.add_argument("later", metavar="LATER", nargs="?", type=int, default=0, help="samples")

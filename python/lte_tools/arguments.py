@@ -6,12 +6,28 @@ import re
 from typing import Any, NoReturn
 
 
-class Parser(argparse.ArgumentParser):
-    """Refuses in one line, and takes a number such as -80e3 as the value of an option or an argument."""
+VERSION = "0.9.0"  # of the tools, as pyproject.toml has it
 
-    def __init__(self, text: str | None, **keys: Any) -> None:
-        super().__init__(description=text, formatter_class=argparse.RawDescriptionHelpFormatter, **keys)
+
+class Parser(argparse.ArgumentParser):
+    """Refuses in one line, and takes a number such as -80e3 as the value of an option or an argument.
+
+    `text` begins with a paragraph on usage, and has further ones for the manual page. With `brief` the help shows only
+    the second paragraph, and the examples, which are indented; an installed command is named as in the text."""
+
+    def __init__(self, text: str | None, brief: bool = False, **keys: Any) -> None:
+        self.text = text or ""
+        parts = self.text.strip().split("\n\n")
+        if brief and parts[0].startswith("lte_"):
+            keys["prog"] = parts[0].split()[0]
+        if brief:
+            keys["epilog"] = "\n".join(["examples:", *(part for part in parts if part.startswith("    "))])
+        described = parts[1] if brief else text
+        super().__init__(description=described, formatter_class=argparse.RawDescriptionHelpFormatter, **keys)
         self._negative_number_matcher = re.compile(r"-\.?\d.*")
+        self.add_argument(
+            "--version", action="version", version=f"%(prog)s {VERSION}", help="print the version and exit"
+        )
 
     def error(self, message: str) -> NoReturn:
         self.exit(2, f"{self.prog}: {message}\n")

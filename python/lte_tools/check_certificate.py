@@ -1,8 +1,10 @@
 #!/usr/bin/python3
-"""check_certificate.py < CERTIFICATES
+"""lte_check_certificate < CERTIFICATES
 
-A second checker of certificates, written from docs/FORMATS.md alone, which shares nothing with the repository's code.
-It prints what `lte_cli check` prints, or `bad certificate at byte N` to standard error.
+Checks certificates as `lte_cli check` does, by an independent implementation, written from docs/CERTIFICATES.md alone. Prints
+what `lte_cli check` prints, or `bad certificate at byte N` on standard error.
+
+    lte_cli certify < recording.ci16 | lte_check_certificate
 """
 from __future__ import annotations
 
@@ -93,7 +95,7 @@ def accepted(data: bytes) -> bool:
 
 def parser() -> argparse.ArgumentParser:
     """Returns the parser of the arguments, of which there are none."""
-    return Parser(__doc__)
+    return Parser(__doc__, brief=True)
 
 
 def answers_of(data: bytes) -> list[bool]:

@@ -1,17 +1,19 @@
 #!/usr/bin/python3
-"""diff.py BEFORE.json AFTER.json [--square M] [--csv | --json] [--csv-places OUT.csv] [--picture OUT.png|OUT.svg]
+"""lte_diff BEFORE.json AFTER.json [OPTIONS]
 
-Compares two surveys of one area that survey.py --json wrote, for instance before and after an antenna is changed: a line
-for each cell with its level and signal to noise before and after, and whether it appeared, is gone, or has another
-physical-layer identity.
+Compares two surveys of one area (outputs of lte_survey --json): for each cell its level and S/N before and after, and
+whether it appeared, disappeared, or changed its PCI.
 
-Where both surveys have places (--track), squares of M metres (50) that both ways pass are compared: a cell's level in a
-square is the median over the windows there that list it, and its difference the median over the squares. Squares in which
-only one survey lists the cell are counted as gained or lost. Without places the medians over all windows are compared.
-Levels in dBFS can be compared only if the radio's gain was the same; survey.py --gain gives dBm.
+If both surveys have positions (--track), squares of M metres that both tracks pass are compared. A cell's level in a
+square is the median over the windows there that list it, and the difference is the median over the squares. Squares in
+which only one survey lists the cell are counted as gained or lost. Without positions, the medians over all windows are
+compared. Levels in dBFS can be compared only if the radio's gain was the same; lte_survey --gain gives dBm.
 
---csv-places writes a line for each cell and square, and for the strongest cell of each square. --picture draws these on a
-map: how much the strongest cell's level has changed, and where there is a cell only before, or only after.
+--csv-places writes a line for each cell and square, and for the strongest cell of each square. --picture draws the
+squares on a map: how much the strongest cell's level changed, and where there is a cell only before, or only after.
+
+    lte_diff before.json after.json
+    lte_diff before.json after.json --picture changes.png --square 100
 
 Debian: for --picture python3-numpy, python3-matplotlib.
 """
@@ -32,15 +34,18 @@ FORMS = (".png", ".svg")
 
 def parser() -> argparse.ArgumentParser:
     """Returns the parser of the arguments."""
-    found = Parser(__doc__)
-    found.add_argument("before", metavar="BEFORE", type=pathlib.Path)
-    found.add_argument("after", metavar="AFTER", type=pathlib.Path)
-    found.add_argument("--square", type=positive, metavar="M", default=SQUARE, help="metres of a square's side (50)")
-    found.add_argument("--csv-places", type=pathlib.Path, metavar="OUT", help="a table by cell and square")
-    found.add_argument("--picture", type=pathlib.Path, metavar="OUT", help="a map, .png or .svg")
-    form = found.add_mutually_exclusive_group()
-    form.add_argument("--csv", action="store_true", help="the table for other programs")
-    form.add_argument("--json", action="store_true", help="cells and squares (docs/FORMATS.md)")
+    found = Parser(__doc__, brief=True)
+    found.add_argument("before", metavar="BEFORE", type=pathlib.Path, help="the earlier survey (JSON)")
+    found.add_argument("after", metavar="AFTER", type=pathlib.Path, help="the later survey (JSON)")
+    by_place = found.add_argument_group("by place")
+    by_place.add_argument(
+        "--square", type=positive, metavar="M", default=SQUARE, help="side of a square in metres (50)"
+    )
+    by_place.add_argument("--csv-places", type=pathlib.Path, metavar="OUT", help="CSV with a line per cell and square")
+    by_place.add_argument("--picture", type=pathlib.Path, metavar="OUT", help="a map (.png or .svg)")
+    form = found.add_argument_group("output (default: a table)").add_mutually_exclusive_group()
+    form.add_argument("--csv", action="store_true", help="one line per cell")
+    form.add_argument("--json", action="store_true", help="all values of each cell and square")
     return found
 
 

@@ -1,10 +1,13 @@
 #!/usr/bin/python3
-"""gr_to_ci16.py IN RATE SHIFT OUT [GAIN]
+"""python3 -m lte_tools.gr_to_ci16 IN RATE SHIFT OUT [GAIN]
 
-Makes a recording by GNU Radio 3.10, without a screen: IN is complex float32 at RATE samples per second, with the cell
-SHIFT hertz above the centre. Moves it to 0, filters, resamples to 1.92 million samples per second, and writes
-interleaved shorts; a component of 1.0 becomes 32,767 times GAIN. The filter's delay costs a few samples: give it
-four frames or more.
+Converts complex float32 samples to a recording for lte_cli by GNU Radio 3.10, without a screen.
+
+IN has RATE samples per second, and the cell SHIFT hertz above the centre. Moves it to 0, filters, resamples to 1.92
+million samples per second, and writes interleaved 16-bit numbers; a component of 1.0 becomes 32,767 times GAIN. The
+filter's delay costs a few samples: use four frames or more.
+
+    python3 -m lte_tools.gr_to_ci16 x.fc32 10000000 0 x.ci16
 
 Debian: gnuradio.
 """
@@ -23,7 +26,7 @@ WANTED = 1_920_000
 
 def parser() -> argparse.ArgumentParser:
     """Returns the parser of the arguments."""
-    parser = Parser(__doc__)
+    parser = Parser(__doc__, brief=True)
     parser.add_argument("source", metavar="IN", type=pathlib.Path)
     parser.add_argument("rate", metavar="RATE", type=positive, help="samples per second")
     parser.add_argument("shift", metavar="SHIFT", type=number, help="hertz")

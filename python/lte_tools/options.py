@@ -135,7 +135,7 @@ def options_of(kind: type[T], args: argparse.Namespace) -> T:
 # ---- parsers
 
 
-def add_file_arguments(parser: argparse.ArgumentParser, **keys: Any) -> None:
+def add_file_arguments(parser: Any, **keys: Any) -> None:
     """Adds what a tool asks of a file; `keys` say how many there may be."""
     parser.add_argument("file", metavar="FILE", type=pathlib.Path, **keys)
     parser.add_argument("--form", choices=FORMS, help="by the file's name where it is left out, else s16")
@@ -211,15 +211,15 @@ def survey_parser(text: str | None) -> argparse.ArgumentParser:
 
 def picture_parser(text: str | None) -> argparse.ArgumentParser:
     """Returns the parser of lte_picture."""
-    parser = Parser(text)
-    add_file_arguments(parser)
-    add: Any = parser.add_argument
-    add("-o", dest="out", metavar="OUT", type=pathlib.Path, required=True)
-    add("--tune", action="store_true", help="take off the offset that lte_tune tells")
-    add("--offset", type=number, help="hertz to take off")
-    add("--cells", type=int, default=4, help="how many cells are drawn (4)")
-    add("--time", action="store_true", help="of a survey with places: over time, in place of the map")
-    add("--title", help="in place of the file's name")
+    parser = Parser(text, brief=True)
+    add_file_arguments(parser.add_argument_group("file"))
+    add: Any = parser.add_argument_group("picture").add_argument
+    add("-o", dest="out", metavar="OUT", type=pathlib.Path, required=True, help="the picture (.png, .svg or .html)")
+    add("--tune", action="store_true", help="correct the offset that lte_tune estimates")
+    add("--offset", type=number, metavar="HZ", help="correct this frequency offset")
+    add("--cells", type=int, metavar="N", default=4, help="maximum number of cells (4)")
+    add("--time", action="store_true", help="for a survey with positions: over time, instead of the map")
+    add("--title", metavar="TEXT", help="title, instead of the file's name")
     return parser
 
 

@@ -1,19 +1,20 @@
 #!/usr/bin/python3
-"""pcap.py [FILE] -o OUT.pcap [--earfcn N]
+"""lte_pcap [FILE] -o OUT.pcap [--earfcn N]
 
-Writes the master blocks and SIB1 of cells as packets that Wireshark and tshark read: GSMTAP over UDP (port 4729), LTE
-RRC on BCCH-BCH and BCCH-DL-SCH. FILE is what `lte_cli evidence --json` or survey.py --json wrote, standard input where
-it is left out; survey.py --pcap OUT.pcap is the same. Lines of a survey that chance explains are left out.
+Writes MIB and SIB1 from the output of `lte_cli evidence --json` or `lte_survey --json` as packets for Wireshark and
+tshark: GSMTAP over UDP (port 4729), LTE RRC on BCCH-BCH and BCCH-DL-SCH.
 
-A packet comes from 127.0.A.B, where 100 A + B is the cell's identity (PCI). Its frame number is that of the first whole
-frame seen of the cell, or of the first behind it in the 40 ms that the master block tells; SIB1 is in subframe 5 of the
-first of even number, whichever it was read from. Its time is that frame's, by the file's time, or where that is not
-known as if the file began with 1970. The carrier's number (EARFCN) is that of --earfcn, or of the survey's carrier in
-the band of SIB1; it is 0 where none is known, and above 16,383, for which GSMTAP has no room. Of a survey in dBm it has
-the level, of each the signal to noise.
+Without FILE, standard input is read. `lte_survey --pcap OUT.pcap` does the same. Cells of a survey that are probably
+false detections are left out.
 
-    lte_cli evidence --json < x.ci16 | pcap.py -o x.pcap
-    survey.py drive.cu8 --rate 2.4e6 --carrier 796e6 --pcap drive.pcap
+A packet comes from 127.0.A.B, where 100 A + B is the PCI. The frame number of a MIB is that of the cell's first complete
+frame, or of the next one in the same 40 ms; SIB1 is in subframe 5 of the first frame with an even number, whichever
+frame it was read from. The time is that of the frame; if the file's time is not known, the file begins with 1970. The
+EARFCN is that of --earfcn, or of the survey's carrier in the band of SIB1; it is 0 if it is not known, or above 16,383,
+the largest that GSMTAP holds. Packets have the signal-to-noise ratio, and for a survey in dBm the level.
+
+    lte_cli evidence --json < recording.ci16 | lte_pcap -o packets.pcap
+    lte_survey drive.cu8 --rate 2.4e6 --carrier 796e6 --pcap drive.pcap
     tshark -r drive.pcap -V
 """
 from __future__ import annotations
@@ -166,10 +167,10 @@ def earfcn(text: str) -> int:
 
 def parser() -> argparse.ArgumentParser:
     """Returns the parser of the arguments."""
-    parser = Parser(__doc__)
-    parser.add_argument("file", metavar="FILE", nargs="?", type=pathlib.Path)
-    parser.add_argument("-o", dest="out", metavar="OUT", type=pathlib.Path, required=True)
-    parser.add_argument("--earfcn", type=earfcn, metavar="N", help="the carrier's number")
+    parser = Parser(__doc__, brief=True)
+    parser.add_argument("file", metavar="FILE", nargs="?", type=pathlib.Path, help="JSON (default: standard input)")
+    parser.add_argument("-o", dest="out", metavar="OUT", type=pathlib.Path, required=True, help="the packets (.pcap)")
+    parser.add_argument("--earfcn", type=earfcn, metavar="N", help="the carrier's EARFCN")
     return parser
 
 

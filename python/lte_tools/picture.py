@@ -1,18 +1,25 @@
 #!/usr/bin/python3
-"""picture.py FILE -o OUT.png|OUT.svg|OUT.html [--form u8|s8|s16|f32|sigmf] [--rate R] [--shift HZ] [--at S] [--tune]
+"""lte_picture FILE -o OUT.png|OUT.svg|OUT.html [OPTIONS]
 
-What is in a radio's file in the first second from second S on. First the file as recorded: its spectrum over time at
-its own rate, in dBFS of one scale for all files, DC, samples at full scale, stretches that stand still. Then what a
-receiver sees: how much of the energy is a primary signal, place by place, with the hits; and of each listed cell its
-broadcast channel's points, the channel over the subcarriers, the values that the master block was read from, and its
-fields. Where no cell is listed, the strongest hit is drawn. --tune takes off the offset that `lte_tune tell` tells,
-unless no list has a cell then.
-FILE may also be what survey.py --json wrote: then it is a map with the table where that has places (--track), else each
-cell's level and signal to noise over time, a row a cell. A page of HTML has all of it, and what the programs wrote.
+Draws the first second of a file from --at: spectrogram and spectrum, the PSS correlation with its detections, and for
+each listed cell the PBCH constellation, the channel, the soft bits of the MIB, and the fields. Given the output of
+lte_survey --json, draws a map or a chart over time.
 
-Hits, identities, cells, evidence and the offset are those of lte_cli and lte_tune. The metric between the hits, points,
-channel and values are those of lte_reference.search, which was written from docs/DEFINITION.md (lte_reference.cell has the
-code). What is said of the file as recorded is of its samples alone.
+The picture begins with the file as recorded: its spectrum over time at its own rate, in dBFS on one scale for all
+files, with DC, samples at full scale and constant stretches marked. Then it shows what a receiver sees: the fraction of
+the energy that the primary synchronisation signal explains at each sample, with the detections, and panels for each
+listed cell. If no cell is listed, the strongest detection is drawn. --tune corrects the offset that `lte_tune tell`
+estimates, unless no list has a cell then.
+
+A survey with positions (--track) is drawn as a map and a table, any other as a chart of each cell's level and
+signal-to-noise ratio over time. An HTML page has both, and the outputs of the programs.
+
+Detections, identities, cells, evidence and the offset are those of lte_cli and lte_tune. The correlation at other
+samples, the points, the channel and the soft values are those of lte_reference.search, which was written from
+docs/DEFINITION.md (lte_reference.cell has the code).
+
+    lte_picture drive.cu8 --rate 2.4e6 --at 12.5 --tune -o second.png
+    lte_picture survey.json -o map.html
 
 Debian: python3-numpy, python3-scipy, python3-matplotlib. Needs lte_cli and lte_tune (README, "Build").
 """

@@ -337,7 +337,7 @@ def transmit(
 ) -> Transmission:
     """Returns the samples of a described cell (`lte_cli transmit`).
 
-    `description` is an object of docs/FORMATS.md, "Descriptions", or the path of its file; `load` is the number of the
+    `description` is an object of docs/SYNTHETIC.md, "Descriptions", or the path of its file; `load` is the number of the
     load at all elements that the description leaves open, or None for none.
     """
     if isinstance(description, Mapping):

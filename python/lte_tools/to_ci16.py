@@ -1,12 +1,17 @@
 #!/usr/bin/python3
-"""to_ci16.py TYPE RATE [SHIFT [START]] [--to R] < FILE > RECORDING
+"""lte_convert TYPE RATE [SHIFT [START]] [--to R] < FILE > RECORDING
 
-Makes a recording of any file of interleaved I and Q: TYPE is u8, s8, s16 or f32 (the low byte first), RATE its samples
-per second, SHIFT the frequency in hertz at which the cell stands in the file (0 where it is the centre), START
-the second at which to begin. Takes off the mean, moves SHIFT to 0, resamples to 1.92 million samples per second,
-filters to the 1.08 MHz of six resource blocks, scales the peak to half of full scale, and writes at most one second.
-With --to R, for `lte_cli search --rate R`, it resamples to R million samples per second, above 1.92 without the filter,
-and writes at most 0.2 seconds, which is more than a list depends on.
+Converts I/Q samples to a recording for lte_cli: removes the mean, shifts SHIFT hertz to 0, resamples to 1.92 million
+samples per second, filters to the 1.08 MHz of six resource blocks, scales the peak to half of full scale, and writes at
+most one second.
+
+TYPE is u8, s8, s16 or f32 (low byte first), with I and Q interleaved. RATE is the file's sample rate, SHIFT the cell's
+frequency in hertz above the file's centre (0 if it is left out), and START the second at which to begin. With --to R, for
+`lte_cli search --rate R`, the recording has R million samples per second, above 1.92 without the filter, and at most 0.2
+seconds, which is more than a list depends on.
+
+    lte_convert u8 2.4e6 < drive.cu8 > recording.ci16
+    lte_convert s16 20e6 --to 15.36 < drive.cs16 > wide.ci16
 
 Debian: python3-numpy, python3-scipy.
 """
@@ -60,11 +65,20 @@ def converted(x: radio.Complex, rate: float, shift: float, to: int = radio.RATE)
 
 def parser() -> argparse.ArgumentParser:
     """Returns the parser of the arguments."""
-    parser = Parser(__doc__)
-    parser.add_argument("form", metavar="TYPE", choices=list(FORMS), help="u8, s8, s16 or f32")
-    parser.add_argument("rate", metavar="RATE", type=rate_argument, help="samples per second")
-    parser.add_argument("shift", metavar="SHIFT", nargs="?", type=number, default=0.0, help="hertz")
-    parser.add_argument("start", metavar="START", nargs="?", type=not_negative, default=0.0, help="seconds")
+    parser = Parser(__doc__, brief=True)
+    parser.add_argument("form", metavar="TYPE", choices=list(FORMS), help="number format: u8, s8, s16 or f32")
+    parser.add_argument("rate", metavar="RATE", type=rate_argument, help="samples per second of the file")
+    parser.add_argument(
+        "shift",
+        metavar="SHIFT",
+        nargs="?",
+        type=number,
+        default=0.0,
+        help="the cell's frequency, hertz above the centre (0)",
+    )
+    parser.add_argument(
+        "start", metavar="START", nargs="?", type=not_negative, default=0.0, help="second at which to begin (0)"
+    )
     parser.add_argument("--to", choices=list(rates.RATES.values()), help="million samples per second of the recording")
     return parser
 

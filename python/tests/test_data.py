@@ -256,9 +256,10 @@ def test_help_and_parsers(tool):
     from lte_tools import add_noise, add_recordings, check_certificate, gr_to_ci16, picture, survey, to_ci16
 
     for module in (add_noise, add_recordings, check_certificate, gr_to_ci16, pcap, picture, survey, to_ci16):
-        assert module.parser().description == module.__doc__
+        assert module.parser().text == module.__doc__
     run = tool("survey", "--help")
     assert run.status == 0 and "--scan" in run.out and "lte_survey" in run.out
+    assert tool("survey", "--version").out == f"lte_survey {arguments.VERSION}\n"
     with pytest.raises(SystemExit):
         arguments.Parser("").error("x")
 

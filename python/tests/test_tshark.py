@@ -60,7 +60,7 @@ def fields(draw):
 
 
 def description_of(sib1):
-    """Returns the fields with the names of a description (docs/FORMATS.md)."""
+    """Returns the fields with the names of a description (docs/SYNTHETIC.md)."""
     return {
         "plmns": [{"mcc": mcc, "mnc": mnc, "reserved": reserved} for mcc, mnc, reserved in sib1["plmns"]],
         "scheduling": [{"period": int(period[2:]), "sibs": sibs} for period, sibs in sib1["entries"]],

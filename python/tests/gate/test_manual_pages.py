@@ -1,9 +1,10 @@
 """Manual pages and completion: command forms from help, Markdown to man(7), and the tools' parsers."""
 import pytest
 
-from lte_gate import command_forms, completions, made, man_pages, roff
+from lte_gate import command_forms, completions, install, made, man_pages, roff
 from lte_gate.install import missing_packages
 from lte_gate.repository import Refused, TOP
+from lte_tools import arguments
 
 HELP = """\
 usage: lte_cli COMMAND [OPTION]..      (in order)
@@ -84,7 +85,7 @@ def test_markdown(text, lines):
 
 def test_both_programs_and_their_version():
     assert [program.name for program in command_forms.programs()] == ["lte_cli", "lte_tune"]
-    assert command_forms.version().count(".") == 2
+    assert command_forms.version() == install.project()["version"] == arguments.VERSION
 
 
 def test_completion_of_a_program():

@@ -5,7 +5,7 @@ _lte_check_certificate() {
     COMPREPLY=()
     case ${COMP_WORDS[COMP_CWORD - 1]} in
 
-        *) if [[ $current == -* ]]; then choices='-h --help'; else return; fi ;;
+        *) if [[ $current == -* ]]; then choices='-h --help --version'; else return; fi ;;
     esac
     mapfile -t COMPREPLY < <(compgen -W "$choices" -- "$current")
 }

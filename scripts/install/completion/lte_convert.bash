@@ -5,7 +5,7 @@ _lte_convert() {
     COMPREPLY=()
     case ${COMP_WORDS[COMP_CWORD - 1]} in
         --to) choices='1.92 3.84 7.68 15.36 30.72' ;;
-        *) if [[ $current == -* ]]; then choices='-h --help --to'; else return; fi ;;
+        *) if [[ $current == -* ]]; then choices='-h --help --version --to'; else return; fi ;;
     esac
     mapfile -t COMPREPLY < <(compgen -W "$choices" -- "$current")
 }

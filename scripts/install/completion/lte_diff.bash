@@ -7,7 +7,7 @@ _lte_diff() {
         --square) compopt +o default 2> /dev/null; return ;;
         --csv-places) return ;;
         --picture) return ;;
-        *) if [[ $current == -* ]]; then choices='-h --help --square --csv-places --picture --csv --json'; else return; fi ;;
+        *) if [[ $current == -* ]]; then choices='-h --help --version --square --csv-places --picture --csv --json'; else return; fi ;;
     esac
     mapfile -t COMPREPLY < <(compgen -W "$choices" -- "$current")
 }

@@ -6,7 +6,7 @@ _lte_pcap() {
     case ${COMP_WORDS[COMP_CWORD - 1]} in
         -o) return ;;
         --earfcn) compopt +o default 2> /dev/null; return ;;
-        *) if [[ $current == -* ]]; then choices='-h --help -o --earfcn'; else return; fi ;;
+        *) if [[ $current == -* ]]; then choices='-h --help --version -o --earfcn'; else return; fi ;;
     esac
     mapfile -t COMPREPLY < <(compgen -W "$choices" -- "$current")
 }

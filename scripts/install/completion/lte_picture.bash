@@ -14,7 +14,7 @@ _lte_picture() {
         --offset) compopt +o default 2> /dev/null; return ;;
         --cells) compopt +o default 2> /dev/null; return ;;
         --title) compopt +o default 2> /dev/null; return ;;
-        *) if [[ $current == -* ]]; then choices='-h --help --form --rate --shift --carrier --at --exchanged --channel -o --tune --offset --cells --time --title'; else return; fi ;;
+        *) if [[ $current == -* ]]; then choices='-h --help --version --form --rate --shift --carrier --at --exchanged --channel -o --tune --offset --cells --time --title'; else return; fi ;;
     esac
     mapfile -t COMPREPLY < <(compgen -W "$choices" -- "$current")
 }
