@@ -36,6 +36,7 @@ class Parser(argparse.ArgumentParser):
 GREATEST = 1e15  # absolute value of a number
 FASTEST = 1e10  # samples per second
 SHORTEST = 0.001  # seconds from one window to the next
+MOST_PROCESSES = 1_024
 
 
 def number(text: str) -> float:
@@ -118,9 +119,9 @@ def not_negative(text: str) -> float:
     return value
 
 
-def at_least_one(text: str) -> int:
-    """Returns a whole number above 0."""
+def processes(text: str) -> int:
+    """Returns a number of processes, from 1 to MOST_PROCESSES."""
     value = int(text)
-    if value < 1:
-        raise argparse.ArgumentTypeError(f"{text} is not above 0")
+    if not 1 <= value <= MOST_PROCESSES:
+        raise argparse.ArgumentTypeError(f"{text} is not a number from 1 to {MOST_PROCESSES:,}")
     return value

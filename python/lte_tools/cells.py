@@ -121,12 +121,25 @@ class SeenCell:
             for delays, levels in pairs
         )
 
+    @property
+    def is_once(self) -> bool:
+        """Whether one window has it, or all that have it are of a loop that repeats the same samples: the same frame number,
+        or one that begins again, and the same cost of the same total."""
+        first = self.seen[0]
+        if self.windows == 1:
+            return True
+        if len(self.seen) < self.windows:
+            return False  # a live survey has forgotten some
+        is_in_loop = self.repeats is not None or len({one.line.sfn for one in self.seen}) == 1
+        return is_in_loop and all(first.is_repeated_by(one) for one in self.seen)
+
     def is_chance(self, cells: Sequence[SeenCell]) -> bool:
-        """Returns whether it is probably a false detection: no SIB1 was read, and it was seen once at a cost, or at
+        """Returns whether it is probably a false detection: no SIB1 was read, and it was seen once at a cost (in a loop with
+        the same samples again), or at
         another's place; and no further windows detect its identity there."""
         if self.line.sib1 is not None or self.is_confirmed:
             return False
-        if self.windows == 1 and (self.share >= DEAR or self.strongest.total < FEW):
+        if self.is_once and (self.share >= DEAR or self.strongest.total < FEW):
             return True
         return self.share >= DEAR and any(self.is_at(other) for other in cells)
 

@@ -426,7 +426,7 @@ IDENTITY_COLUMNS: tuple[Column[SurveyIdentity, Survey], ...] = (
         "level of a reference element in the strongest window",
         lambda line, _: line.level,
     ),
-    Column("unit", "", "", None, "the level's unit, dBFS or dBm", lambda line, survey: survey.unit, is_left=True),
+    Column("unit", "unit", "", None, "the level's unit, dBFS or dBm", lambda line, survey: survey.unit, is_left=True),
     Column(
         "below",
         "dB below",

@@ -66,7 +66,7 @@ def command() -> None:
     elif args.csv:
         print(survey_diff.csv_of(found), end="")
     else:
-        print("\n".join(survey_diff.table_of(found)))
+        print("\n".join(map(machine.plain, survey_diff.table_of(found))))
 
 
 def check_outputs(args: argparse.Namespace) -> None:

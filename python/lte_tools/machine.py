@@ -9,6 +9,7 @@ import io
 import json
 import os
 import pathlib
+import re
 import shutil
 import signal
 import stat
@@ -16,6 +17,7 @@ import subprocess
 import sys
 from typing import Any, Callable, Iterable, NoReturn
 
+CONTROL = re.compile("[\x00-\x1f\x7f-\x9f\u200e\u200f\u2028-\u202e\u2066-\u2069]")  # with those that turn the direction
 TOP = pathlib.Path(__file__).resolve().parent.parent.parent
 
 
@@ -40,14 +42,20 @@ def tool_name() -> str:
     return pathlib.Path(sys.argv[0]).name
 
 
+def plain(text: str) -> str:
+    """Returns a text with a question mark for each control character, which a terminal would obey."""
+    return CONTROL.sub("?", text)
+
+
 def note(text: str) -> None:
     """Prints a line on standard error; the tool goes on."""
-    print(f"{tool_name()}: {text}", file=sys.stderr)
+    print(f"{tool_name()}: {plain(text)}", file=sys.stderr)
 
 
 def fail(text: str, status: int = 1) -> NoReturn:
     """Ends the tool with one line on standard error and a status."""
-    print(f"{tool_name()}: {' '.join(text.split())}".encode(errors="backslashreplace").decode(), file=sys.stderr)
+    line = plain(f"{tool_name()}: {' '.join(text.split())}")
+    print(line.encode(errors="backslashreplace").decode(), file=sys.stderr)
     raise SystemExit(status)
 
 

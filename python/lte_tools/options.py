@@ -13,7 +13,7 @@ from dataclasses import dataclass
 from typing import Any, TypeVar, Union
 
 from . import bands, machine, track
-from .arguments import Parser, apart, at_least_one, decibels, gain, limits, network, not_negative, number, rate
+from .arguments import Parser, apart, decibels, gain, limits, network, not_negative, number, processes, rate
 from .machine import Refused
 
 WINDOW = 0.17  # seconds of a window: the 17 frames that a list depends on
@@ -159,7 +159,7 @@ def add_window_arguments(parser: argparse.ArgumentParser) -> None:
         type=gain,
         help="dBFS of a signal of 0 dBm at the antenna: levels are in dBm then; or 0:-20,14:-14 by time",
     )
-    add("--jobs", type=at_least_one, default=os.cpu_count() or 1, help="processes (one a processor)")
+    add("--jobs", type=processes, default=os.cpu_count() or 1, help="processes (one a processor), at most one a window")
     add("--scan", action="store_true", help="look at each carrier of the 100 kHz raster in the file")
     add(
         "--deep",

@@ -32,6 +32,7 @@ LOW, HIGH = 3.4, 6.2  # inches of a map's height
 MAP, TABLE = (0.85, 6.1), (7.3, 4.55)  # inches from the left, and of width
 HEAD, FOOT, NOTES = 0.75, 0.95, 0.5  # inches above and below the map, and below the table
 BETWEEN = 0.35  # inches above each of several maps
+BAR = 0.5, 0.65  # inches of the scale's corner beside its bar, and of its height, with the words at the way's ends
 ROOM = 1  # inches from a corner, within which no place is where an arrow is drawn
 ALONE = 7.2  # inches of a map without a table
 FEW = 9  # cells whose table is beside the map; that of more is below it, a line for each
@@ -125,6 +126,20 @@ class Frame:
         return (-wide, wide), (-tall, tall)
 
     @property
+    def scale_corner(self) -> tuple[int, int]:
+        """The corner of the scale: the first of four in which no place is where the bar is, below on the left, below on the
+        right, above on the left, above on the right, or the one with the fewest: 1 or -1 to the east, and to the north.
+        """
+        (_, right), (_, high) = self.limits
+        wide, tall = round_below(self.metres * self.width / 4) + BAR[0] * self.metres, BAR[1] * self.metres
+
+        def places_at(corner: tuple[int, int]) -> int:
+            east, north = corner
+            return sum(east * x > right - wide and north * y > high - tall for x, y in self.places)
+
+        return min(((-1, -1), (1, -1), (-1, 1), (1, 1)), key=places_at)
+
+    @property
     def free_corner(self) -> tuple[int, int]:
         """The first of three corners with room, above on the right, above on the left, and below on the right, or the one
         with the most: 1 or -1 to the east, and to the north."""
@@ -172,8 +187,8 @@ class Map(Frame):
         return f"{picture_survey.name_of(cell)}{picture_survey.number_of(cell)}{where}"
 
 
-def draw_map(ax: Any, drawn: Map) -> None:
-    """Draws the way, the marks and letters on it, the scale, north and degrees."""
+def draw_map(ax: Any, drawn: Map, name: str = "") -> None:
+    """Draws the way, the marks and letters on it, the scale, north and degrees; `name` is put in front of the title."""
     xlim, ylim = drawn.limits
     ax.set(xlim=xlim, ylim=ylim)
     ax.spines[["top", "right"]].set_visible(True)
@@ -188,9 +203,9 @@ def draw_map(ax: Any, drawn: Map) -> None:
     draw_scale(ax, drawn)
     draw_degrees(ax, drawn)
     if drawn.signs:
-        ax.set_title(f"Strongest cell, by letter, mark and colour; its level in {drawn.found.unit} by size")
+        ax.set_title(f"{name}Strongest cell, by letter, mark and colour; its level in {drawn.found.unit} by size")
     else:
-        ax.set_title("No cell is certain at any place")
+        ax.set_title(f"{name}No cell is certain at any place")
 
 
 def draw_way(ax: Any, drawn: Map) -> None:
@@ -259,17 +274,21 @@ def metres_text(metres: float) -> str:
 
 
 def draw_scale(ax: Any, drawn: Frame) -> None:
-    """Draws a bar of metres below on the left, and an arrow to the north in another corner, where there is room."""
+    """Draws a bar of metres and an arrow to the north, in two corners where there is room."""
     length = round_below(drawn.metres * drawn.width / 4)
     (left, right), (low, high) = drawn.limits
     inch = drawn.metres
-    x, y = left + 0.2 * inch, low + 0.2 * inch
+    east, north = drawn.scale_corner
+    x = left + 0.2 * inch if east < 0 else right - 0.2 * inch - length
+    y = low + 0.2 * inch if north < 0 else high - 0.35 * inch
     tick = 0.05 * inch
     ax.plot([x, x, x, x + length, x + length, x + length], [y + tick, y - tick, y, y, y - tick, y + tick], "k-", lw=1.2)
     keys = {"ha": "center", "path_effects": HALO, "zorder": 6}
     ax.text(x + length / 2, y + 0.06 * inch, metres_text(length), fontsize=8, va="bottom", **keys)
+    is_shared = drawn.free_corner == drawn.scale_corner
     east, north = drawn.free_corner
     x, y = east * (right - 0.25 * inch), high - 0.2 * inch if north > 0 else low + 0.8 * inch
+    y -= north * BAR[1] * inch * is_shared
     arrow = {"arrowstyle": "-|>", "color": "black", "lw": 1.2, "shrinkA": 0, "shrinkB": 0}
     ax.annotate("", (x, y), (x, y - 0.45 * inch), arrowprops=arrow, zorder=6)
     ax.text(x, y - 0.5 * inch, "N", fontsize=9, va="top", fontweight="bold", **keys)
@@ -332,9 +351,8 @@ def sheet_of_carriers(found: Survey, every: Sequence[Carrier], title: str | None
     headed(figure, title or found.file, picture_survey.facts_line(found, title)).set(y=1 - 0.12 / tall, va="top")
     for carrier, part, drawn in zip(every, own, maps):
         ax = axes_at(figure, MAP[0], top, MAP[1], drawn.height)
-        draw_map(ax, drawn)
+        draw_map(ax, drawn, f"{carrier.text}: ")
         draw_sizes(ax, drawn)
-        ax.set_title(f"{carrier.text}: {ax.get_title()}", fontsize=8.5)
         cells = in_order(part, drawn.signs)[:FEW]
         signs = {id(part.lines[number]): sign for number, sign in drawn.signs.items()}
         height = max(picture_survey.ROW, min(picture_survey.TALL * len(cells), drawn.height))

@@ -27,6 +27,7 @@ FINE = 8  # hertz that may be left
 VAGUE = 250  # hertz of error from which on pilots do not give an offset
 LOW_RATIO = 16  # dB of signal to noise below which another cell may be at a cell's pilots
 DEAR = 0.07  # cost by total from which on a line that was seen once is probably a false detection
+REPEATED = 0.01  # of cost and of total by which they differ in windows of the same samples, at most
 PARTS, PART = (3, 6, 9, 12), 4  # frames of a window from which on pilots are read again, and how many frames that takes
 
 
@@ -318,6 +319,11 @@ class Sighting:
     def share(self) -> float:
         """Cost by total."""
         return self.cost / self.total
+
+    def is_repeated_by(self, other: Sighting) -> bool:
+        """Returns whether another sighting may be of the same samples: cost and total are the same, nearly."""
+        pairs = (self.cost, other.cost), (self.total, other.total)
+        return all(abs(one - another) <= REPEATED * max(one, another) for one, another in pairs)
 
     @property
     def echoes(self) -> list[tuple[float, float]]:

@@ -42,7 +42,7 @@ def text_of(options: SurveyOptions, survey: Survey, planned: Sequence[plan.Plann
         return json.dumps({**survey.to_json(), **more}, sort_keys=True, separators=(",", ":")) + "\n"
     if not options.csv:
         lines = [line for one in reports for line in one.lines(survey)]
-        return "\n".join([*survey_table.table_of(survey), *lines]) + "\n"
+        return "\n".join(map(machine.plain, [*survey_table.table_of(survey), *lines])) + "\n"
     if not reports:
         return survey_table.csv_of(survey)
     return tables.csv_of(reports[0].columns, reports[0].rows, survey)

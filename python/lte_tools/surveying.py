@@ -150,6 +150,14 @@ def ask_all(imap: Any, name: str, function: Callable[[T], R], tasks: Sequence[T]
     return found
 
 
+def questions_of(options: SurveyOptions, file: RadioFile) -> int:
+    """Returns how many questions at most are asked at once: one for each window, in a scan one for each of its frequencies
+    too."""
+    if options.scan:
+        return len(scan.starts_of(options, file)) * len(scan.raster(file))
+    return len(file.starts(options.at, WINDOW, options.every))
+
+
 def survey_of(options: SurveyOptions) -> Survey:
     """Returns the survey that options ask for."""
     file = live.opened(options) if options.is_input else radio_file.opened(options)
@@ -160,6 +168,7 @@ def survey_of(options: SurveyOptions) -> Survey:
         return live.survey(options, file)
     file = places.begun(file, options.start)
     track = places.track_of(options, file)
+    options = dataclasses.replace(options, jobs=min(options.jobs, questions_of(options, file)))
     with asking(options.jobs) as ask:
         survey = scan.scanned(options, file, ask) if options.scan else surveyed(options, file, ask)
     if track:

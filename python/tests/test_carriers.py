@@ -9,8 +9,10 @@ from lte_tools.answers import Network
 from lte_tools.page import saved
 from lte_tools.survey_data import Scan
 from tests.conftest import is_one_line
-from tests.test_planning import CELLS, made, stored  # noqa: F401
+from tests import test_planning
+from tests.test_planning import CELLS
 
+made, stored = test_planning.made, test_planning.stored  # fixtures
 # by identity: hertz above the centre, carrier in hertz, EARFCN of band 20, network
 ON = {
     63: (0.0, 796e6, 6_200, "01"),
@@ -20,7 +22,7 @@ ON = {
 
 
 @pytest.fixture
-def scanned(made):  # noqa: F811
+def scanned(made):
     """Returns a scan of two carriers of two networks, in which the cell of the second is the strongest in two windows; a
     cell of each network has the same cell identity."""
 
@@ -77,7 +79,7 @@ def test_carriers_without_a_frequency(scanned):
     assert len(carriers.carriers_of(dataclasses.replace(scanned(), cells=chance))) == 1
 
 
-def test_coverage_of_one_carrier_names_the_network(made):  # noqa: F811
+def test_coverage_of_one_carrier_names_the_network(made):
     found = coverage.coverage_of(made(), coverage.Limits(-62.0, 10.0))
     texts = [one.text("dBFS") for one in found if one.what == "strongest"]
     assert texts[0] == f"strongest: PCI 63, cell {CELLS[63]} of 001-01" and {one.group for one in found} == {None}
@@ -96,7 +98,7 @@ def test_letters_and_maps_of_each_carrier(scanned):
         [False, False, True, False, True, True],
     ]
     figure = picture_map.map_sheet(survey)
-    titles = [ax.get_title() for ax in figure.axes if ax.get_title()]
+    titles = [title for ax in figure.axes if (title := ax.get_title("left") or ax.get_title())]
     assert [title.split(":")[0] for title in titles] == ["001-01 6200", "001-02 6250"]
     assert saved(figure, "png").startswith(b"\x89PNG")
 
@@ -107,7 +109,7 @@ def test_geojson_has_the_strongest_of_each_carrier(scanned):
     assert best == [63] * 5 + [64] * 3
 
 
-def test_one_network(tool, stored, scanned):  # noqa: F811
+def test_one_network(tool, stored, scanned):
     path = stored(scanned())
     found = json.loads(tool("survey", path, "--network", "001-02", "--coverage=-62,10", "--json").out)
     assert [cell["identity"] for cell in found["cells"]] == [64]

@@ -195,3 +195,30 @@ def test_loop_of_a_pipe(pipe):
     assert len(state.cells) == 1 and state.cells[0].windows == 12
     (line,) = state.survey().cells
     assert line.repeats == 0.16 and line.windows == 12
+
+
+# ---- a loop that repeats its noise
+
+
+def unsure(window, sfn=None, cost=1_134):
+    """A line that is probably false: no SIB1, at a cost of 12.6 % (`total` is 9,000)."""
+    return dataclasses.replace(sighting(88, window, 500, sfn=sfn, has_sib1=False), cost=cost)
+
+
+def marks_of(found):
+    cells, _ = continuity.as_one(joined(found))
+    return [(cell.windows, cell.is_chance(cells)) for cell in cells]
+
+
+def test_a_false_detection_that_a_loop_repeats_is_one():
+    """1,024 frames are 10.24 s, and 17 frames a window: after 1,024 windows the frame number is the same again."""
+    assert marks_of([unsure(0), unsure(1_024)]) == [(2, True)]
+    assert marks_of([unsure(0), unsure(1_024, cost=1_000)]) == [(2, False)]  # other noise
+    assert marks_of([unsure(0), unsure(1)]) == [(2, False)]  # another frame
+
+
+def test_a_loop_with_the_same_frame_number_in_each_window():
+    assert marks_of([unsure(i, sfn=7) for i in range(3)]) == [(3, True)]
+    assert marks_of([unsure(i, sfn=7, cost=900 + 40 * i) for i in range(3)]) == [(3, False)]
+    sure = [dataclasses.replace(unsure(i, sfn=7), cost=90) for i in range(3)]
+    assert marks_of(sure) == [(3, False)]

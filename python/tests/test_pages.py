@@ -7,6 +7,7 @@ import re
 
 import numpy as np
 import pytest
+from matplotlib import pyplot
 
 from tests.conftest import EXAMPLES, TOP
 from lte_tools import columns, foreign, page, picture_labels, picture_map, picture_scan, picture_style
@@ -234,6 +235,36 @@ def test_north_is_drawn_where_no_place_is(survey, east, north, corner):
     """The way is two straight lines, in thousandths of a degree."""
     lon, lat = (np.interp(np.arange(12), [0, 5, 11], values) / 1000 for values in (east, north))
     assert picture_map.Map(survey_of_places(survey, list(zip(lon, lat))), 6).free_corner == corner
+
+
+@pytest.mark.parametrize(
+    "east, north, corner",
+    [
+        ([0, 1, 2], [1, 0.5, 0], (-1, -1)),
+        ([0, 1, 2], [0, 0.5, 1], (1, -1)),
+        ([0, 0, 2], [0, 1, 1], (1, -1)),
+        ([0, 0.3, 2], [1, 0, 0], (1, 1)),
+    ],
+)
+def test_scale_is_drawn_where_no_place_is(survey, east, north, corner):
+    """The way is two straight lines, in thousandths of a degree."""
+    lon, lat = (np.interp(np.arange(12), [0, 5, 11], values) / 1000 for values in (east, north))
+    drawn = picture_map.Map(survey_of_places(survey, list(zip(lon, lat))), 6)
+    assert drawn.scale_corner == corner
+    figure, ax = pyplot.subplots()
+    picture_map.draw_scale(ax, drawn)
+    (bar,) = ax.lines
+    (left, right), (low, high) = ((min(values), max(values)) for values in bar.get_data())
+    near = 0.1 * drawn.metres
+    assert not any(left - near < x < right + near and low - near < y < high + near for x, y in drawn.places)
+    north_text = next(text for text in ax.texts if text.get_text() == "N").get_position()[1]
+    assert not low < north_text < high
+    pyplot.close(figure)
+
+
+def test_heading_of_the_unit(survey):
+    """Each column of the table of identities has a heading, so that the page does not show a question mark."""
+    assert [column.heading for column in columns.IDENTITY_COLUMNS if column.heading == ""] == []
 
 
 def test_scale_and_map_of_one_place(survey):

@@ -500,6 +500,18 @@ def test_reuse_has_the_names_of_both_cells(made, tmp_path):
     assert names == [("A", "B"), ("B", "A")]
 
 
+def test_control_characters_of_names_do_not_reach_a_terminal(tool, stored, made, tmp_path):
+    name = "drive\x1b[31m\x07\u202e.cu8"
+    (tmp_path / "plan.csv").write_text("name,pci\nNor\x1b]0;th\x9b,63\n")
+    run = tool("survey", stored(made(name=name)), "--plan", tmp_path / "plan.csv")
+    assert "drive?[31m??.cu8" in run.out and "Nor?]0;th?" in run.out
+    assert not re.search("[\x00-\x09\x0b-\x1f\x7f-\x9f\u202e]", run.out)
+    run = tool("survey", tmp_path / "none\x1b[31m.json")
+    assert is_one_line(run) and "none?[31m.json" in run.err and "\x1b" not in run.err
+    run = tool("diff", stored(made(name=name)), stored(made(name="b"), "b.json"))
+    assert run.status == 0 and "\x1b" not in run.out and "drive?[31m" in run.out
+
+
 BAD_PLANS = {
     "no column identity or pci": "name,cell\na,1\n",
     "line 3: identity: '504' is not a whole number from 0 to 503": "pci\n1\n504\n",

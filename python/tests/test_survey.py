@@ -3,6 +3,7 @@ import csv
 import dataclasses
 import io
 import json
+import multiprocessing
 import os
 import subprocess
 import tarfile
@@ -346,3 +347,11 @@ def test_refusals_from_python(recording, tmp_path):
         lte_tools.search(tmp_path / "none.ci16")
     with pytest.raises(lte_tools.ProgramRefused):
         lte_tools.transmit({"identity": 1})
+
+
+def test_no_more_processes_than_windows(tool, recording, monkeypatch):
+    """The recording has one window of 17 frames, less than that of them: no process is begun for it."""
+    monkeypatch.setattr(multiprocessing, "Pool", None)
+    assert tool("survey", recording, "--offset", "0", "--jobs", "1000").status == 0
+    for count in ("0", "1025", "99999999999", "x"):
+        assert is_one_line(tool("survey", recording, "--jobs", count))
