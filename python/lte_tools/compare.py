@@ -1,5 +1,5 @@
 #!/usr/bin/python3
-"""compare.py OURS THEIRS [--as FORM] [--columns C=H,..] [--fields F,..] [--tolerance DB] [--csv | --json]
+"""compare.py OURS THEIRS [--as FORM] [--columns C=H,..] [--fields F,..] [--tolerance DB] [--csv | --json] [--html OUT]
 
 Compares our list of cells with that of another receiver: a verdict for each cell, and for each field that differs. OURS is
 a survey that lte_survey --json wrote, or a recording, of which lte_survey's list is made first, with its options. THEIRS
@@ -14,7 +14,7 @@ numbers. Widths, PHICH resources, identities, carriers and cell identities are c
 Of a recording, each cell that only THEIRS has states what lte_cli why, ids and ids --deep report at its place.
 docs/COMPARE.md says what each verdict means.
 
-Debian: for recordings python3-numpy, python3-scipy; for captures tshark.
+Debian: for recordings python3-numpy, python3-scipy; for captures tshark; for --html python3-matplotlib.
 """
 from __future__ import annotations
 
@@ -61,6 +61,7 @@ def parser() -> argparse.ArgumentParser:
         "--tolerance", type=decibels, metavar="DB", default=TOLERANCE, help="dB by which a level may differ (2)"
     )
     options.add_window_arguments(found)
+    found.add_argument("--html", type=pathlib.Path, metavar="OUT", help="a page with the verdicts")
     form = found.add_mutually_exclusive_group()
     form.add_argument("--csv", action="store_true", help="the verdicts for other programs")
     form.add_argument("--json", action="store_true", help="verdicts, levels and constants (docs/FORMATS.md)")
@@ -73,6 +74,9 @@ def command() -> None:
     given = options.checked_survey(given, args.every is not None)
     if given.is_input:
         raise Refused("OURS is a survey or a file of samples: - is only for THEIRS")
+    if args.html:
+        machine.check_packages("matplotlib", status=REFUSED)
+        machine.check_place(args.html, [*given.files, args.theirs])
     theirs = read(args.theirs, args.form_of_theirs, args.columns)
     survey = survey_of(given)
     ours = compare_lists.of_survey(survey, str(given.file))
@@ -81,6 +85,8 @@ def command() -> None:
         from . import compare_reasons
 
         found = compare_reasons.with_reasons(found, theirs, given, survey)
+    if args.html:
+        machine.write(args.html, compare_outputs.page_of(found))
     if args.json:
         print(json.dumps(compare_outputs.json_of(found), sort_keys=True, separators=(",", ":")))
     elif args.csv:

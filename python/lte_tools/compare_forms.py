@@ -6,6 +6,7 @@ the sources of the programs as they are remembered; docs/COMPARE.md says which o
 from __future__ import annotations
 
 import dataclasses
+import html
 import re
 from typing import Any, Callable, Iterator, NamedTuple
 
@@ -363,6 +364,49 @@ def geojson(value: dict[str, Any], name: str) -> CellList:
     return CellList(name, "ours", limited, units.pop() if len(units) == 1 else None, True)
 
 
+# ---- ours: pages and KML
+
+
+def is_page(text: str) -> bool:
+    """Returns whether a text is a page or KML of lte_survey."""
+    return text.lstrip()[:1] == "<" and ("<title>Survey of " in text or "<kml" in text)
+
+
+def page(text: str, name: str) -> CellList:
+    """Returns the list of the page or the KML of lte_survey, without false detections."""
+    is_kml = "<kml" in text
+    rows = kml_rows(text) if is_kml else page_rows(text)
+    cells = [compare_tables.listed_at(row, f"{'place' if is_kml else 'row'} {place}", name) for place, row in rows]
+    strongest = [dataclasses.replace(one, kind=compare_lists.STRONGEST) for one in cells]
+    found = compare_lists.measured(compare_lists.limited(strongest, name, "ours"))
+    return CellList(name, "ours", found, "dBm" if re.search(r">dBm<", text) else "dBFS", True)
+
+
+def page_rows(text: str) -> Iterator[tuple[int, dict[str, str]]]:
+    """Yields the rows of a page's tables, each with its number."""
+    number = 0
+    for table in re.findall(r"<table>(.*?)</table>", text, re.S):
+        head = [html.unescape(one) for one in re.findall(r"<th [^>]*><button>(.*?)</button></th>", table)]
+        for line in re.findall(r"<tr>(<td .*?)</tr>", table) if "PCI" in head and "windows" in head else ():
+            number += 1
+            values = [html.unescape(one) for one in re.findall(r"<td [^>]*>(.*?)</td>", line)]
+            row = dict(zip(head, values))
+            if row.get("?") != "?":
+                yield number, compare_tables.aligned_values(row)
+
+
+def kml_rows(text: str) -> Iterator[tuple[int, dict[str, str]]]:
+    """Yields the values of the places at which cells were strongest, each with its number."""
+    columns = {"identity": "pci", "carrier": "frequency", "bandwidth": "width"}
+    columns |= {key: key for key in ("plmn", "tac", "cell", "band", "ports", "level")}
+    for number, mark in enumerate(
+        re.findall(r"<Placemark><name>PCI [^<]*, strongest</name>(.*?)</ExtendedData>", text, re.S)
+    ):
+        values = dict(re.findall(r'<Data name="(\w+)"><value>(.*?)</value>', mark))
+        if values.get("chance") != "true":
+            yield number + 1, {columns[key]: html.unescape(one) for key, one in values.items() if key in columns}
+
+
 # ---- which form
 
 
@@ -393,6 +437,8 @@ def read(data: bytes, name: str, form: str | None, columns: dict[str, str]) -> C
     text = compare_tables.text_of(data, name)
     if text.lstrip()[:1] in ("{", "[") and form in (None, "ours", "matlab"):
         return of_json(text, name, form)
+    if form in (None, "ours") and is_page(text):
+        return page(text, name)
     if columns or form in ("csv", "matlab"):
         return compare_tables.csv_list(text, name, columns)
     for one in TEXTS:

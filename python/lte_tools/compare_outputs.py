@@ -119,6 +119,23 @@ def totals_of(found: Comparison) -> str:
     return ", ".join(texts).replace(" differ", f" differ ({by_field})", 1) or "no cell"
 
 
+def page_of(found: Comparison) -> bytes:
+    """Returns the comparison as a page of HTML that opens without a network."""
+    from .page import details, page, text
+    from .page_tables import SCRIPT, STYLE, Words, table, words_of
+
+    meanings = {str(column.heading): column.meaning.replace("`", "") for column in COLUMNS if column.heading}
+    left = {column.heading for column in COLUMNS if column.is_left and column.heading}
+    words = Words(lambda heading: meanings[heading], lambda _, word: VERDICTS.get(word.replace(" ", "-"), ""), left)
+    rows = tables.texts_of(COLUMNS, found.verdicts, found)
+    head, *below = [line for line in table_of(found) if line not in tables.lines_of(COLUMNS, found.verdicts, found)]
+    parts = [f"<p>{text(head)}.", table("Verdicts", rows, words) if rows else "<p>No cell."]
+    parts += [f"<p>{text(line)}." for line in below]
+    parts += [words_of(rows, words)] if rows else []
+    parts += [details("The comparison as JSON", json_of(found)), SCRIPT]
+    return page(f"{found.theirs} compared with {found.ours}", parts, STYLE)
+
+
 def csv_of(found: Comparison) -> str:
     """Returns the verdicts for other programs: a key a column, nothing where nothing is known."""
     return tables.csv_of(COLUMNS, found.verdicts, found)

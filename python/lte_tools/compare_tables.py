@@ -103,8 +103,8 @@ def check_lines(text: str, name: str) -> None:
     count = text.count("\n")
     if count > MOST_LINES:
         raise Refused(f"{name}: line {MOST_LINES + 1}: more than {MOST_LINES:,} lines")
-    if text[:1] in "{[":
-        return  # JSON may be one line
+    if text.lstrip()[:1] in ("{", "[", "<"):
+        return  # JSON may be one line, and a page has pictures
     for number, line in enumerate(text.split("\n"), 1):
         if len(line) > MOST_LINE:
             raise Refused(f"{name}: line {number}: more than {MOST_LINE:,} characters")

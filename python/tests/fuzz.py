@@ -1,9 +1,9 @@
 """python3 -m tests.fuzz [COUNT [SEED]], in python/
 
 Gives COUNT (5000) mutated inputs to the readers of foreign files: SigMF pairs and archives, WAV, files as one drive,
-tracks as GPX, NMEA, CSV and gpsd's JSON, what lte_survey and lte_cli wrote as JSON, plans of cells as CSV, and files of
-samples. Each has to be read, or to be refused in one line: no other exception, and no part of an output. Memory is
-limited to 2 GB. Prints what is not so, and a count; the status is 1 where anything is. The same SEED (1) gives the same
+lists of other receivers, tracks as GPX, NMEA, CSV and gpsd's JSON, what lte_survey and lte_cli wrote as JSON, plans of
+cells as CSV, and files of samples. Each has to be read, or to be refused in one line: no other exception, and no part of
+an output. Memory is limited to 2 GB. Prints what is not so, and a count; the status is 1 where anything is. The same SEED (1) gives the same
 inputs.
 """
 import io
@@ -18,9 +18,27 @@ import tempfile
 
 import numpy as np
 
-from lte_tools import clashes, coverage, diff, kml, machine, options, pcap, places, plan, radio_file, summary
+from lte_tools import (
+    clashes,
+    compare_forms,
+    compare_lists,
+    compare_outputs,
+    compare_verdicts,
+    coverage,
+    diff,
+    foreign,
+    kml,
+    machine,
+    options,
+    pcap,
+    places,
+    plan,
+    radio_file,
+    summary,
+)
 from lte_tools import survey_diff, survey_page, survey_table, survey_windows, tables, track
 from lte_tools.survey_data import Survey
+from tests import stand_in
 
 TOP = pathlib.Path(__file__).resolve().parents[2]
 OUTPUTS = TOP / "scripts/examples/outputs"
@@ -252,6 +270,20 @@ def read_survey(draw, path, value):
     return Survey.read(path)
 
 
+def try_list(draw, folder):
+    """Reads another receiver's list, and compares it with our survey."""
+    name = draw.choice([name for name in stand_in.FORMS if name != "pcap"])
+    found = stand_in.FORMS[name][1](stand_in.planted(draw.choice((None, *stand_in.FAULTS))))
+    data = mutated(draw, found if isinstance(found, bytes) else found.encode())
+    theirs = compare_forms.read(data, "list", draw.choice((None, None, stand_in.FORMS[name][0])), {})
+    ours = compare_lists.of_survey(
+        stand_in.survey_of(stand_in.truth(), json.loads((OUTPUTS / "survey.json").read_text()))
+    )
+    compared = compare_verdicts.comparison_of(ours, theirs)
+    compare_outputs.table_of(compared), compare_outputs.csv_of(compared)
+    foreign.check(compare_outputs.json_of(compared), "compare", "JSON of lte_compare, which has to fit the schema")
+
+
 KINDS = (
     try_track,
     try_sigmf,
@@ -263,6 +295,7 @@ KINDS = (
     try_evidence,
     try_plan,
     try_tables,
+    try_list,
 )
 
 

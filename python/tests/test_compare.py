@@ -11,11 +11,12 @@ import shutil
 import numpy as np
 import pytest
 
-from lte_tools import compare_forms, compare_lists, compare_verdicts, places, radio, survey_table, survey_windows
-from lte_tools.survey_data import Survey, Track
+from lte_tools import compare_forms, compare_lists, compare_verdicts, kml, places, radio
+from lte_tools import survey_page, survey_table, survey_windows
+from lte_tools.survey_data import Detected, Scan, Survey, SurveyIdentity, Track
 from tests import stand_in
 from tests.conftest import EXAMPLES, is_one_line
-from tests.stand_in import FAULTS, FORMS
+from tests.stand_in import EARFCN, FAULTS, FORMS
 
 CASES = [(name, fault) for name in FORMS for fault in FAULTS if stand_in.carries(name, fault)]
 
@@ -197,6 +198,8 @@ OWN = {
     "table": lambda survey: "\n".join(survey_table.table_of(survey)).encode(),
     "csv-windows": lambda survey: survey_windows.csv_of(survey).encode(),
     "geojson": places.geojson_text,
+    "kml": kml.of_survey,
+    "page": survey_page.page_of,
     "pcap": lambda survey: stand_in.capture(stand_in.truth()),
 }
 
@@ -208,6 +211,39 @@ def test_survey_agrees_with_each_of_its_forms(placed, name):
     assert found.form in ("ours", "pcap")
     assert [one.verdict for one in found.verdicts] == ["agree"] * 5
     assert {"identity", "tac", "cell", "plmn"} <= set(found.fields)
+
+
+@pytest.fixture
+def scanned(placed):
+    """A scan of two carriers, with a cell in two lines and one that is probably a false detection."""
+    cells = [
+        dataclasses.replace(one, shift=shift, frequency=796e6 + shift, earfcns=((20, EARFCN + round(shift / 1e5)),))
+        for one, shift in zip(placed.cells, (0.0, 0.0, 5e6, 5e6, 5e6))
+    ]
+    cells += [
+        dataclasses.replace(cells[0], first=0.5, windows=1),
+        dataclasses.replace(cells[2], identity=5, chance=True),
+    ]
+    scan = Scan(791e6, 806e6, 151)
+    return dataclasses.replace(placed, cells=tuple(cells), scan=scan)
+
+
+@pytest.fixture
+def deep(placed):
+    """A survey with a cell of which the identity alone is known, and one whose SIB1 was not read."""
+    detected = tuple(Detected(0.17 * i, 326_400 * i + 99, None, -71.0, 19.0, 100, 0.0, (13.4, 52.5)) for i in range(2))
+    identity = SurveyIdentity(88, 0.0, 0.17, None, 2, -71.0, 19.0, 100, detected)
+    bare = dataclasses.replace(placed.cells[1], sib1=None, no_sib1="no-control")
+    cells = (placed.cells[0], bare, *placed.cells[2:])
+    return dataclasses.replace(placed, cells=cells, identities=(identity,))
+
+
+@pytest.mark.parametrize("name", [name for name in OWN if name != "pcap"])
+@pytest.mark.parametrize("kind", ["scanned", "deep"])
+def test_further_surveys_agree_with_their_forms(request, kind, name):
+    survey = request.getfixturevalue(kind)
+    found = compared(compare_lists.of_survey(survey), OWN[name](survey))
+    assert [one.verdict for one in found.verdicts] == ["agree"] * (5 if kind == "scanned" else 6)
 
 
 @pytest.mark.parametrize("name", ["search_all", "evidence_all", "evidence", "ids"])
@@ -257,6 +293,18 @@ def test_json_fits_the_schema_and_csv_has_its_verdicts(tool, files):
     rows = list(csv.DictReader(io.StringIO(tool("compare", ours, theirs, "--csv").out)))
     assert [row["verdict"] for row in rows] == [one["verdict"] for one in found["verdicts"]]
     assert rows[-1]["field"] == "level" and rows[-1]["identity"] == "64" and rows[-1]["level"] == "3.0"
+
+
+def test_page_has_the_verdicts(tool, files, tmp_path):
+    ours, theirs = files
+    theirs.write_bytes(data_of("csv", stand_in.planted("tac")))
+    out = tmp_path / "compare.html"
+    assert tool("compare", ours, theirs, "--html", out).status == 1
+    text = out.read_text()
+    assert re.search(r"<td [^>]*>differ</td>", text) and "theirs has the two bytes exchanged" in text
+    assert not re.search(r"(src|href)=.https?:", text)
+    assert tool("compare", ours, theirs, "--html", theirs).status == 2
+    assert tool("compare", ours, theirs, "--html", tmp_path / "no/where").status == 2
 
 
 def test_columns_are_named(tool, files):

@@ -19,7 +19,8 @@ _lte_compare() {
         --gain) compopt +o default 2> /dev/null; return ;;
         --jobs) compopt +o default 2> /dev/null; return ;;
         --earfcn) compopt +o default 2> /dev/null; return ;;
-        *) if [[ $current == -* ]]; then choices='-h --help --version --form --rate --shift --carrier --at --exchanged --channel --as --columns --fields --tolerance --every --offset --gain --jobs --scan --deep --earfcn --csv --json'; else return; fi ;;
+        --html) return ;;
+        *) if [[ $current == -* ]]; then choices='-h --help --version --form --rate --shift --carrier --at --exchanged --channel --as --columns --fields --tolerance --every --offset --gain --jobs --scan --deep --earfcn --html --csv --json'; else return; fi ;;
     esac
     mapfile -t COMPREPLY < <(compgen -W "$choices" -- "$current")
 }
