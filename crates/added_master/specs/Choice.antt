@@ -1,6 +1,7 @@
 -- The choice among the MIBs that the frames of a position decode to with different port counts, phases and frame
 -- numbers. (own)
-use Rattle.std.specs.Prelude.{◌≡◌, ◌⊎◌, ℕ, ◌+◌, ◌*◌, ◌<◌, nat_eq, nat_lt, if◌then◌else◌, List, ℤ, Option, Some, None, MatchOption}
+use Rattle.std.specs.Prelude.{◌≡◌, ◌⊎◌, ℕ, ◌+◌, ◌*◌, ◌<◌, nat_eq, nat_lt, if◌then◌else◌}
+use Rattle.std.specs.Prelude.{List, ℤ, Option, Some, None, MatchOption}
 use Rattle.added_master.specs.declared.master.AddedMaster.{AddedMaster}
 use Rattle.added_master.specs.Sums.{period_sums, added_sums}
 use Rattle.added_master.specs.Master.{DecodesAdded}
@@ -44,7 +45,7 @@ IsMasterOf identity frames = IsChoice (IsDecoded identity frames)
 
 -- ---- as the code computes it
 
--- of two MIBs the one with more matches, or the first if both have as many
+-- the MIB with more matches, or the first if both have as many
 unfoldable pub better : Option AddedMaster → Option AddedMaster → Option AddedMaster
 better first None = first
 better None (Some b) = Some b

@@ -19,8 +19,8 @@ OnlyOneMaster = (identity : ℕ) (frames : ℕ → List (List ℤ)) (a b : Optio
 
 -- ---- coincidences
 
--- how many patterns of 120 signs match given ones in at least 102 positions: the sum of the binomial coefficients of 120
--- from 102 to 120
+-- how many patterns of 120 signs match given ones in at least 102 positions: the sum of the binomial coefficients of
+-- 120 from 102 to 120
 abbrev pub coincidence_count : ℕ
 coincidence_count = 1313204944144981392715
 

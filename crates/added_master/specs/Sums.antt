@@ -1,6 +1,7 @@
 -- Sums of the broadcast channel's soft values over all frames of a recording, whichever periods of 40 ms they are in.
 -- (own; scrambling, rate matching and coding are in TS 36.211 section 6.6.1 and TS 36.212 section 5.3.1)
-use Rattle.std.specs.Prelude.{ℕ, ◌+◌, ◌-◌, ◌*◌, ◌%◌, Bool, false, cond, List, [], slice_index_or, slice_range, ℤ, pos, neg_ℤ, ◌+ℤ◌, bit_xor}
+use Rattle.std.specs.Prelude.{ℕ, ◌+◌, ◌-◌, ◌*◌, ◌%◌, Bool, false, cond, bit_xor}
+use Rattle.std.specs.Prelude.{List, [], slice_index_or, slice_range, ℤ, pos, neg_ℤ, ◌+ℤ◌}
 use Rattle.std.specs.List.{flat_map}
 use Rattle.finite.specs.Lists.{values_below}
 use Rattle.finite.specs.Sums.{sum_below}

@@ -12,8 +12,8 @@ use lte_types::CellId;
 use pbch::{Received, WordSums};
 use tailbite::Trellis;
 
-/// Returns the MIB of a position, if there is one, from the soft values in its frames, at most 17: `one`, `two` and
-/// `four` are those for one, two and four antenna ports. Of several the one with the most matches is chosen. (own)
+/// Returns the MIB with the most matches to which a position's frames decode, if there is one. `one`, `two` and `four`
+/// have the soft values for one, two and four antenna ports, in at most 17 frames. (own)
 pub fn master_of_frames(
     id: CellId,
     one: &[Received],

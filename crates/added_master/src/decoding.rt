@@ -17,8 +17,8 @@ use tailbite::{Trellis, least};
 // How many of 120 signs have to match.
 const LEAST_MATCHES: u8 = 102;
 
-/// Decodes the MIB from 120 added sums of magnitude at most 2^20, for `ports`, 1, 2 or 4, and upper frame number bits
-/// `upper`. Returns `None` if fewer than 102 signs match, the CRC fails, or another field is not as stated.
+/// Decodes the MIB from 120 added sums of magnitude at most 2^20. Returns `None` if fewer than 102 signs match, the CRC
+/// fails with the mask for `ports`, or the upper frame number bits are not `upper`.
 pub fn decode_added(
     sums: &[[i32; 3]; 40],
     ports: u8,

@@ -1,6 +1,7 @@
 //! Laws of the MIB from added frames.
 
-ghost use Rattle.added_master.specs.Laws.{OnlyOneDecoded, OnlyOneMaster, CoincidencesAreCounted, CoincidencesAreFew, CoincidencesAreRare};
+ghost use Rattle.added_master.specs.Laws.{OnlyOneDecoded, OnlyOneMaster};
+ghost use Rattle.added_master.specs.Laws.{CoincidencesAreCounted, CoincidencesAreFew, CoincidencesAreRare};
 
 /// A law: added sums decode to at most one MIB with a port count and a phase, and a position has only one answer.
 pub fn one_answer()

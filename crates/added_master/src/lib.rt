@@ -1,5 +1,5 @@
-//! The MIB from the broadcast channel's soft values added over all frames at a position, whichever periods of 40 ms they
-//! are in: the signs of the sums, the MIB, and the choice among port counts, phases and frame numbers.
+//! The MIB from the broadcast channel's soft values, added over up to 17 frames of several periods of 40 ms: the sums,
+//! how many of their signs match, and the choice among port counts, phases and frame numbers.
 //! Tests: the crate `accumulated_tests`.
 #![tactic(auto)]
 

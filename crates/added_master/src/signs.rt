@@ -9,8 +9,8 @@ ghost use Rattle.added_master.specs.Master.{matches_of, sign_of_sum, sign_of_bit
 use conv_code::encode;
 use cs_bits::Bits;
 
-/// Returns how many of the 120 sums have the sign of their coded bit in the codeword of `word`: above 0 for the bit 0,
-/// below 0 for the bit 1. The magnitudes of the sums are at most 2^20.
+/// Returns how many of the 120 sums have the sign of their coded bit in the codeword of `word`. A sum above 0 means the
+/// bit 0, a sum below 0 the bit 1.
 pub fn count_matches(sums: &[[i32; 3]; 40], word: &Bits<40>) -> u8
     requires { RowsWithin (2 ^ 20) sums.now }
     ensures value { result ≡ matches_of sums.now word.now }

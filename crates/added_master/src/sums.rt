@@ -39,8 +39,8 @@ fn sums_in_period(id: CellId, phase: usize, d: usize, frames: &[Received]) -> Wo
     WordSums::new(&sums_of(id, first, &frames[start..end]))
 }
 
-/// Returns the 120 sums over all periods: each period's soft values are counted back to those of the first period, whose
-/// upper frame number bits are `upper`.
+/// Returns the 120 sums over all periods. Each period's soft values are first counted back to the first period, in
+/// which the upper eight frame number bits are `upper`.
 pub fn added_sums(sums: &[WordSums; 5], upper: u8) -> [[i32; 3]; 40]
     ensures sums { result ≡ added_sums_of sums.now upper }
     ensures magnitudes { RowsWithin (2 ^ 20) result }
