@@ -1,0 +1,5 @@
+mod Words
+mod Adding
+mod Decoded
+mod Choices
+mod Patterns

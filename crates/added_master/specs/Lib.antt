@@ -1,0 +1,4 @@
+pub mod Sums
+pub mod Master
+pub mod Choice
+pub mod Laws
