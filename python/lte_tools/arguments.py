@@ -103,6 +103,22 @@ def network(text: str) -> str:
     return f"{found[1]}-{found[2]}"
 
 
+def side(text: str) -> float:
+    """Returns the side of a square in metres, 1 to 100,000."""
+    value = number(text)
+    if not 1 <= value <= 100_000:
+        raise argparse.ArgumentTypeError(f"{text} is not between 1 and 100,000 metres")
+    return value
+
+
+def count(text: str) -> int:
+    """Returns a number of cells, 2 to 504."""
+    value = int(text)
+    if not 2 <= value <= 504:
+        raise argparse.ArgumentTypeError(f"{text} is not a number of cells from 2 to 504")
+    return value
+
+
 def limits(text: str) -> tuple[float, float]:
     """Returns a level and a signal to noise ratio in dB, as -100,5."""
     parts = text.split(",")

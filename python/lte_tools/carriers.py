@@ -76,3 +76,8 @@ def of_network(survey: Survey, network: str) -> Survey:
 def may_be_of(cell: SurveyCell, network: str) -> bool:
     """Returns whether a cell is of a network, as far as SIB1 was read."""
     return cell.sib1 is None or network in cell.sib1.networks
+
+
+def every_of(survey: Survey) -> list[Carrier]:
+    """Returns the carriers of a survey; the one that was looked at if no cell is certain."""
+    return carriers_of(survey) or [Carrier(None, survey.carrier)]

@@ -219,7 +219,7 @@ COLUMNS: tuple[Column[SurveyCell, Survey], ...] = (
         "dBFS",
         "dBFS",
         None,
-        "level of a reference element in the cell's strongest window, relative to the file's full scale",
+        "level of a reference element (RSRP) in the cell's strongest window, relative to the file's full scale",
         lambda cell, survey: cell.level,
     ),
     Column(
@@ -227,7 +227,7 @@ COLUMNS: tuple[Column[SurveyCell, Survey], ...] = (
         "dBm",
         "dBm",
         None,
-        "level of a reference element in the cell's strongest window, with the radio's gain that `--gain` states",
+        "level of a reference element (RSRP) in the cell's strongest window, with the radio's gain that `--gain` states",
         lambda cell, survey: cell.level,
     ),
     Column("unit", None, "", None, "the level's unit, dBFS or dBm", lambda cell, survey: survey.unit),
@@ -236,7 +236,7 @@ COLUMNS: tuple[Column[SurveyCell, Survey], ...] = (
         "S/N dB",
         "dB",
         None,
-        "signal-to-noise ratio of a reference element: the median over the windows",
+        "signal-to-noise ratio of a reference element (SINR): the median over the windows",
         lambda cell, survey: cell.ratio,
     ),
     Column(

@@ -7,7 +7,6 @@ and have places; one without a place stands for none of it. Windows without numb
 """
 from __future__ import annotations
 
-import dataclasses
 import itertools
 from dataclasses import dataclass
 from typing import Callable, NamedTuple, Sequence
@@ -98,10 +97,7 @@ class Group(NamedTuple):
 
     def windows(self, windows: Sequence[Window]) -> list[Window]:
         """Returns windows with the cells of this group alone."""
-        return [
-            dataclasses.replace(one, cells=tuple(each for each in one.cells if each.cell.shift in self.shifts))
-            for one in windows
-        ]
+        return survey_windows.of_carrier(windows, *self.shifts)
 
 
 def groups_of(survey: Survey) -> list[Group]:

@@ -13,7 +13,20 @@ from dataclasses import dataclass
 from typing import Any, TypeVar, Union
 
 from . import bands, machine, track
-from .arguments import Parser, apart, decibels, gain, limits, network, not_negative, number, processes, rate
+from .arguments import (
+    Parser,
+    apart,
+    count,
+    decibels,
+    gain,
+    limits,
+    network,
+    not_negative,
+    number,
+    processes,
+    rate,
+    side,
+)
 from .machine import Refused
 
 WINDOW = 0.17  # seconds of a window: the 17 frames that a list depends on
@@ -37,6 +50,8 @@ OF_SAMPLES = (
     "start",
     "every",
 )
+# options that ask for a table besides that of the cells
+TABLES = ("plan", "clashes", "coverage", "servers", "grid", "pollution", "neighbours", "classes")
 FORMS = ("u8", "s8", "s16", "f32", "sigmf")
 
 
@@ -70,7 +85,7 @@ class FileOptions:
 class SurveyOptions(FileOptions):
     """Options of a survey: `every` in seconds, `offset` in hertz, `gain` in dB, or pairs of a second of the file and the dB
     from there on, `jobs` processes, `network` as 262-02, `clashes` in dB, `coverage` a level in the survey's unit and a
-    ratio in dB."""
+    ratio in dB, `grid` metres of a square's side, `pollution` a number of cells."""
 
     every: float = WINDOW
     offset: float | None = None
@@ -93,6 +108,11 @@ class SurveyOptions(FileOptions):
     network: str | None = None
     clashes: float | None = None
     coverage: tuple[float, float] | None = None
+    servers: bool = False
+    grid: float | None = None
+    pollution: int | None = None
+    neighbours: bool = False
+    classes: bool = False
     csv: bool = False
     json: bool = False
 
@@ -203,6 +223,11 @@ def survey_parser(text: str | None) -> argparse.ArgumentParser:
     )
     add("--clashes", type=decibels, metavar="DB", help="cells within DB in the same windows, with modulo 3, 6, 30")
     add("--coverage", type=limits, metavar="LEVEL,RATIO", help="how much is above a level and a ratio in dB")
+    add("--servers", action="store_true", help="the best server along the way, with RSRP, RSRQ and SINR")
+    add("--grid", type=side, metavar="M", help="the best server in squares of M metres, with a map in --html")
+    add("--pollution", type=count, metavar="N", help="where N cells or more are within 6 dB of the best server")
+    add("--neighbours", action="store_true", help="for each best server the cells that are heard with it")
+    add("--classes", action="store_true", help="how much of the way each class of RSRP, RSRQ and SINR has")
     form = parser.add_mutually_exclusive_group()
     form.add_argument("--csv", action="store_true", help="the table for other programs, with the file's name")
     form.add_argument("--json", action="store_true", help="all that is known of each cell and window (docs/FORMATS.md)")
@@ -282,7 +307,7 @@ def check_input(options: SurveyOptions) -> None:
 
 def check_tables(options: SurveyOptions) -> None:
     """Refuses two tables in one CSV, and options of samples for a survey that was made before."""
-    asked = [name for name in ("plan", "clashes", "coverage") if getattr(options, name) is not None]
+    asked = [name for name in TABLES if getattr(options, name) not in (None, False)]
     if options.csv and asked[1:]:
         raise Refused(f"--csv writes one table: --{asked[0]} or --{asked[1]}")
     if options.further and any(one.suffix == ".json" for one in options.files):

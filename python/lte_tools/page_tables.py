@@ -4,7 +4,7 @@ from __future__ import annotations
 from typing import Any, Callable, Collection, NamedTuple, Sequence
 
 from .columns import Column, word_meaning
-from .page import details, text
+from .page import details, image, text
 from .survey_data import Survey
 from .tables import Report, texts_of
 
@@ -100,6 +100,7 @@ def report_parts(report: Report, survey: Survey) -> list[str]:
     parts = [f"<h2>{text(report.title)}</h2><p>{text(report.head)}."]
     if not rows:
         return [*parts, "<p>None."]
+    parts += [image(figure, says) for says, figure in (report.draw() if report.draw else ())]
     return [*parts, table(report.title, rows, words, "wide tall"), words_of(rows, words)]
 
 

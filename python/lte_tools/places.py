@@ -216,6 +216,8 @@ def iso(time: float | None) -> str | None:
     return None if time is None or not track.FIRST <= time <= track.LAST else track.iso(time)
 
 
-def geojson_text(survey: Survey) -> bytes:
-    """Returns the GeoJSON of a survey as bytes."""
-    return (json.dumps(geojson_of(survey), separators=(",", ":")) + "\n").encode()
+def geojson_text(survey: Survey, further: Sequence[dict[str, Any]] = ()) -> bytes:
+    """Returns the GeoJSON of a survey, with further features, as bytes."""
+    found = geojson_of(survey)
+    found["features"] += further
+    return (json.dumps(found, separators=(",", ":")) + "\n").encode()

@@ -225,6 +225,19 @@ def findings_of(survey: Survey, plan: Sequence[Planned]) -> list[Finding]:
     return sorted(found, key=lambda one: order.index(one.finding))
 
 
+def names_of(survey: Survey, plan: Sequence[Planned]) -> dict[int, str]:
+    """Returns by the number of a cell among the survey's lines its name in the plan, where one planned cell matches."""
+    detected = [*lines_of(survey), *identities_of(survey)]
+    index, numbers = Index(plan, detected), {id(cell): number for number, cell in enumerate(survey.lines)}
+    matches = ((lines, index.of(lines)) for lines in detected)
+    return {
+        numbers[id(cell)]: own[0].name
+        for lines, own in matches
+        if len(own) == 1 and own[0].name
+        for cell in lines.cells
+    }
+
+
 def is_looked_at(planned: Planned, survey: Survey) -> bool:
     """Returns whether a survey looked at the carrier of a planned cell, as far as both are known."""
     if planned.frequency is None:

@@ -3,9 +3,22 @@ from __future__ import annotations
 
 import json
 import pathlib
-from typing import Callable, Sequence
+from typing import Any, Callable, Sequence
 
-from . import clashes, coverage, kml, machine, pcap, places, plan, survey_table, survey_windows, tables
+from . import (
+    clashes,
+    coverage,
+    grid,
+    kml,
+    machine,
+    pcap,
+    places,
+    plan,
+    planner_reports,
+    survey_table,
+    survey_windows,
+    tables,
+)
 from .machine import Refused
 from .options import SurveyOptions
 from .survey_data import Survey
@@ -31,7 +44,7 @@ def reports_of(options: SurveyOptions, survey: Survey, planned: Sequence[plan.Pl
     if options.coverage:
         parts = coverage.coverage_of(survey, coverage.Limits(*options.coverage))
         found.append(Report("coverage", "Coverage", coverage.head_of(survey, parts), coverage.COLUMNS, parts))
-    return found
+    return found + planner_reports.reports_of(options, survey, planned)
 
 
 def text_of(options: SurveyOptions, survey: Survey, planned: Sequence[plan.Planned] = ()) -> str:
@@ -56,7 +69,7 @@ def write(options: SurveyOptions, survey: Survey) -> None:
             raise Refused(f"{survey.file}: no track in it, and --{name} needs places")
     writers: tuple[tuple[pathlib.Path | None, Callable[[Survey], bytes]], ...] = (
         (options.csv_windows, lambda found: survey_windows.csv_of(found).encode(errors="surrogateescape")),
-        (options.geojson, places.geojson_text),
+        (options.geojson, lambda found: places.geojson_text(found, squares_of(options, found))),
         (options.kml, kml.of_survey),
     )
     for out, content in writers:
@@ -64,6 +77,11 @@ def write(options: SurveyOptions, survey: Survey) -> None:
             machine.write(out, content(survey))
     if options.pcap:
         pcap.write(options.pcap, pcap.of_survey(survey, options.earfcn))
+
+
+def squares_of(options: SurveyOptions, survey: Survey) -> list[dict[str, Any]]:
+    """Returns the squares that options ask for, as features of GeoJSON."""
+    return [] if options.grid is None else grid.features_of(grid.squares_of(survey, options.grid), survey.unit)
 
 
 def write_page(options: SurveyOptions, survey: Survey, planned: Sequence[plan.Planned] = ()) -> None:

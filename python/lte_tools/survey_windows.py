@@ -3,6 +3,7 @@ from __future__ import annotations
 
 import bisect
 import collections
+import dataclasses
 import itertools
 import math
 import statistics
@@ -102,6 +103,14 @@ def windows_of(survey: Survey) -> list[Window]:
             tuple(sorted(cells.values(), key=lambda one: one.rank, reverse=True)),
         )
         for start, cells in sorted(seen.items())
+    ]
+
+
+def of_carrier(windows: Sequence[Window], *shifts: float | None) -> list[Window]:
+    """Returns windows with the cells of some carriers of a scan alone, by hertz above the file's centre."""
+    return [
+        dataclasses.replace(one, cells=tuple(each for each in one.cells if each.cell.shift in shifts))
+        for one in windows
     ]
 
 
@@ -343,5 +352,7 @@ DEEP_COLUMNS: tuple[Column[Line, Survey], ...] = (
 
 def csv_of(survey: Survey) -> str:
     """Returns the table by window for other programs."""
+    from .quality import WINDOW_COLUMNS
+
     more = () if survey.identities is None else DEEP_COLUMNS
-    return tables.csv_of((*COLUMNS, *more), lines_of(survey), survey)
+    return tables.csv_of((*COLUMNS, *WINDOW_COLUMNS, *more), lines_of(survey), survey)

@@ -3,7 +3,7 @@ from __future__ import annotations
 
 import csv
 import io
-from typing import Any, Collection, Iterable, Mapping, NamedTuple, Sequence
+from typing import Any, Callable, Collection, Iterable, Mapping, NamedTuple, Sequence
 
 from .columns import Column, Row, Value, Whole
 from .survey_data import Survey
@@ -13,7 +13,7 @@ FORMULA = ("=", "+", "-", "@", "\t", "\r")  # with which a spreadsheet begins a 
 
 class Report(NamedTuple):
     """A table of a survey besides that of its cells: its key in the JSON, its title, the line above it, its columns and rows,
-    and by heading what the words below it mean."""
+    by heading what the words below it mean, and a function that draws its maps, each with what it shows."""
 
     key: str
     title: str
@@ -21,6 +21,7 @@ class Report(NamedTuple):
     columns: Sequence[Column[Any, Survey]]
     rows: Sequence[Any]
     meanings: Mapping[str, Mapping[str, str]] = {}
+    draw: Callable[[], Sequence[tuple[str, Any]]] | None = None
 
     def lines(self, survey: Survey) -> list[str]:
         """Returns an empty line, the line above the table, and the table."""
