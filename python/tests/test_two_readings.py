@@ -1,7 +1,8 @@
 """Inputs that decide between two readings of a sentence in docs/DEFINITION.md and docs/FORMATS.md."""
 import numpy as np
+import pytest
 
-from lte_reference import deep, search, why
+from lte_reference import deep, search, why, wide_grants
 
 N1, N2 = 10, 0
 
@@ -56,3 +57,27 @@ def test_outside_is_a_sample_that_excludes_hits():
     r[128:256] += primary()
     assert search.hits(r) == []
     assert why.why(r, 3 * N1 + N2, search.RULES[()]) == [{"rule": "outside", "best": 128, "ratio": 1000, "needs": 250}]
+
+
+def format_1a(blocks, start, length, distributed=True, second=False, scheme=5):
+    """Returns the bits of a grant in format 1A, with the second gap or the first."""
+    width = wide_grants.field_width(wide_grants.runs(blocks))
+    fields = ((1, 1), (distributed, 1), (wide_grants.value_of(blocks, start, length), width), (scheme, 5), (0, 3))
+    more = ((second, 1), (0, 2), (0, 2))
+    return [int(bit) for value, size in (*fields, *more) for bit in f"{value:0{size}b}"]
+
+
+@pytest.mark.parametrize(
+    "blocks, start, length, keys, is_grant",
+    (
+        (25, 19, 5, {}, True),
+        (25, 20, 5, {}, False),  # 24 virtual blocks
+        (25, 20, 5, {"distributed": False}, True),
+        (50, 32, 4, {"second": True}, True),
+        (50, 34, 4, {"second": True}, False),  # 36 virtual blocks
+        (15, 0, 3, {"scheme": 26, "distributed": False}, True),  # whose block is too large
+        (15, 0, 3, {"scheme": 27, "distributed": False}, False),
+    ),
+)
+def test_bits_without_a_grant(blocks, start, length, keys, is_grant):
+    assert (wide_grants.long_grant(blocks, format_1a(blocks, start, length, **keys)) is not None) == is_grant
