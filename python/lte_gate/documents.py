@@ -29,7 +29,7 @@ CRATES = TOP / "crates"
 HISTORY = ("CHANGELOG.md",)
 BUDGETS = {
     "README.md": 1500,
-    "CONTRIBUTING.md": 2350,
+    "CONTRIBUTING.md": 1800,
     "CHANGELOG.md": 3400,
     "docs/ARCHITECTURE.md": 4900,
     "docs/CLAIMS.md": 6800,
@@ -40,6 +40,7 @@ BUDGETS = {
     "docs/CERTIFICATES.md": 1800,
     "docs/SYNTHETIC.md": 3100,
     "docs/GLOSSARY.md": 1800,
+    "docs/HOW_TO.md": 1050,
     "docs/PROVED.md": 1100,
     "docs/TROUBLESHOOTING.md": 2000,
     "docs/TUTORIAL.md": 1450,

@@ -19,12 +19,26 @@ SAYS = {
     "lte_convert": "convert a radio's I/Q file to a recording for lte_cli",
     "lte_check_certificate": "check certificates of lte_cli, independently",
 }
+# the paragraphs of a program's description
+ABOUT = {
+    "lte_cli": (
+        "Lists the cells in a recording of an LTE FDD downlink: physical cell identity (PCI), frame number, MIB and SIB1, "
+        "from 1.4 to 20 MHz, with 1, 2 or 4 antenna ports. Each step is a short written rule (`docs/DEFINITION.md`), and "
+        "the program is proved to follow the rules. `why` names the rule by which a cell is listed or not.",
+        "A recording is read from standard input, not from a file that an argument names. It has no header: I before Q, "
+        "16-bit or 8-bit numbers, 30 ms to one second, with the cell at frequency 0. `lte_convert` makes recordings of "
+        "other files, `lte_tune` corrects a frequency offset, and `lte_survey` does both, for files of any length.",
+    ),
+    "lte_tune": (
+        "Estimates the frequency offset of a recording, up to 60 kHz either way, and corrects it, so that `lte_cli` finds "
+        "the cells. The mean of the samples is subtracted too. A phase step is 117.1875 Hz.",
+    ),
+}
 # the sections of docs/FORMATS.md that a page has, each with its heading there
-INPUT, STATUS = ("Recordings", "RECORDINGS"), ("Exit codes", "EXIT STATUS")
+STATUS = ("Exit codes", "EXIT STATUS")
 SECTIONS = {
-    "lte_cli": (INPUT, ("Commands", "OUTPUT"), STATUS),
-    "lte_tune": (INPUT, ("`lte_tune`", "OUTPUT"), STATUS),
-    "lte_survey": (("The survey", "OUTPUT"),),
+    "lte_cli": (STATUS,),
+    "lte_tune": (("`lte_tune`", "OUTPUT"), STATUS),
     "lte_diff": (("Two surveys", "OUTPUT"),),
     "lte_compare": (("Two receivers", "OUTPUT"),),
 }
@@ -71,8 +85,17 @@ OWN_STATUSES = {
     }
 }
 PLACES = (
-    "Files below `docs/` and `scripts/examples/` are installed in `../share/doc/lte_cli`, relative to these programs. "
-    "Sections in quotation marks that are not on this page are in `docs/FORMATS.md` there."
+    "Files below `docs/` and `scripts/examples/` are installed in `../share/doc/lte_cli`, relative to these programs, for "
+    "example in `/usr/share/doc/lte_cli/docs`. Sections in quotation marks that are not on this page are in "
+    "`docs/FORMATS.md` there."
+)
+FILES = (
+    ("docs/FORMATS.md", "all inputs and outputs, byte by byte, with the keys of JSON and CSV"),
+    ("docs/TUTORIAL.md", "from a file to a table, a question and an answer"),
+    ("docs/TROUBLESHOOTING.md", "causes of missing cells, refusals and other symptoms"),
+    ("docs/RECORDINGS.md", "recipes for other files, and what was observed"),
+    ("docs/DEFINITION.md", "the rules by which a cell is listed"),
+    ("docs/GLOSSARY.md", "the words of these pages"),
 )
 
 
@@ -109,6 +132,7 @@ def foot(name):
         ".EE",
         ".SH FILES",
         *roff.filled(PLACES),
+        *(line for name, says in FILES for line in roff.labelled(roff.bold(name), says)),
         ".SH SEE ALSO",
         *(f"{other}{',' * (other != others[-1])}" for other in others),
     ]
@@ -135,7 +159,10 @@ def words_of(text):
 
 def of_program(program):
     """Returns the page of a program."""
-    page = [*head(program.name), ".SH SYNOPSIS", words_of(program.usage), ".SH COMMANDS"]
+    page = [*head(program.name), ".SH SYNOPSIS", words_of(program.usage)]
+    for i, part in enumerate(ABOUT[program.name]):
+        page += [".PP" if i else ".SH DESCRIPTION", *roff.filled(part)]
+    page.append(".SH COMMANDS")
     for form in program.forms:
         page += roff.labelled(words_of(form.words), form.says)
     for group in program.groups:

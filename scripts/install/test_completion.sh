@@ -29,7 +29,7 @@ rated() { # rated < FORMS: each form with each rate, and without
 
 receiver() {
     printf '%s\n' {hits,ids,'ids --deep'{' all',}}{' --json',}{' --format cu8',} | rated
-    printf '%s\n' search{' --ports 2',' --ports 4',' --prefix long',' --cancel',' --all',}{' --json',}{' --format cu8',} |
+    printf '%s\n' search{' --ports 2',' --ports 4',' --prefix long',' --all',' --cancel',}{' --json',}{' --format cu8',} |
         rated
     printf '%s\n' evidence{' --ports 2',' --ports 4',' --prefix long',' --all',}{' --json',}{' --format cu8',} | rated
     ports 'why 271' {' --json',''}{' --format cu8',''} | rated
@@ -37,12 +37,12 @@ receiver() {
     echo check
     ports transmit {' --load 7',}
     ports 'make 7' ''
-    printf '%s\n' help --help -h version --version
+    printf '%s\n' help --help -h version --version -V
 }
 
 tuner() {
     printf '%s\n' tell{' --json',}{' --format cu8',} apply{,' -7'}{' --format cu8',} | rated
-    printf '%s\n' help --help -h version --version
+    printf '%s\n' help --help -h version --version -V
 }
 
 fronts() { # fronts < FORMS: each front of each form, without its last word and so on, once

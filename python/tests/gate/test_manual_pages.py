@@ -6,6 +6,7 @@ from lte_gate.install import missing_packages
 from lte_gate.repository import Refused, TOP
 from lte_tools import arguments
 
+MOST_WORDS = 1_200  # of a manual page
 HELP = """\
 usage: lte_cli COMMAND [OPTION]..      (in order)
 
@@ -54,8 +55,8 @@ def test_table_of_columns():
 
 def test_page_of_forms():
     page = man_pages.of_program(command_forms.program_of(HELP))
-    assert ".TH LTE_CLI 1" in page and r"\\fB\\-\\-ports 2\\fR".replace("\\\\", "\\") in page
-    assert ".SH EXIT STATUS" in page
+    assert ".TH LTE_CLI 1" in page and r"\fB\-\-ports 2 | \-\-ports 4\fR" in page
+    assert ".SH EXIT STATUS" in page and ".SH DESCRIPTION" in page and ".SH LIST" in page
 
 
 @pytest.mark.parametrize("text", ("", "no usage\n  help  x", "usage: a B\n  help", "usage: a B\n   help  x"))
@@ -97,4 +98,5 @@ def test_completion_of_a_program():
 def test_files_are_those_made_now():
     files = made.made()
     assert not list(made.different(files))
+    assert [path.name for path, text in files.items() if path.suffix == ".1" and len(text.split()) > MOST_WORDS] == []
     assert TOP / "scripts/install/man/lte_pcap.1" in files
