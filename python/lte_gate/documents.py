@@ -28,8 +28,8 @@ from .repository import TOP, report, run
 CRATES = TOP / "crates"
 HISTORY = ("CHANGELOG.md",)
 BUDGETS = {
-    "README.md": 1500,
-    "CONTRIBUTING.md": 1800,
+    "README.md": 2250,
+    "CONTRIBUTING.md": 2350,
     "CHANGELOG.md": 3400,
     "docs/ARCHITECTURE.md": 4900,
     "docs/CLAIMS.md": 6800,

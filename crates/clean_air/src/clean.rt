@@ -1,6 +1,8 @@
 //! The cell list, and the promise that it contains every cell that the receiver hears.
 //!
-//! The promise (`IsListBy`): if the receiver hears a cell of its transmission scheme that sends a known plan
+//! The promise has two parts (`IsListBy`). First, a cell that is nearest to the soft values at each PSS detection that
+//! gives the cell has an entry with its identity, antenna ports and MIB and, if the receiver reads SIB1, its SIB1
+//! (`nearest`, `nearest_master`, `specs/Nearest.antt`). Second, if the receiver hears a cell of its transmission scheme that sends a known plan
 //! (`IsKnownBy`), the list has exactly one entry with the cell's identity, start and frame number, read at cost 0 from
 //! the cell's first whole frame (`heard`, `specs/Heard.antt`). A cell of any bandwidth whose MIB is heard has an entry
 //! too (`master`). A cell is heard if the recording
@@ -27,7 +29,8 @@ use sample_file::Recording;
 /// A receiver of one transmission scheme whose cell list contains each cell that the receiver hears. (own)
 pub trait CleanReader: FrameReader {
     /// A law: the receiver's list contains each cell of its scheme and each MIB, of any bandwidth, that the receiver
-    /// hears, and each cell that is received through channels (`IsCellThrough`) or to which the recording is faithful.
+    /// hears or that is nearest, and each cell that is received through channels (`IsCellThrough`) or to which the
+    /// recording is faithful.
     fn holds_cells()
         ensures { HoldsCells Self.receiver };
 

@@ -1,6 +1,7 @@
 //! Guaranteed detection: the cell list of each transmission scheme contains every cell with clean reception. Clean
 //! means that each antenna port is received with one gain and noise within a stated bound; with one antenna port,
-//! reception through a channel is also covered. Each law is the contract of a function without a body: it states all
+//! reception through a channel is also covered. The list also contains every cell whose sent words are the nearest ones
+//! to the soft values, although some of these may have wrong signs (`near`). Each law is the contract of a function without a body: it states all
 //! its premises, and uses only the receiver's definitions.
 //!
 //! Tests: `list_tests/src/clean_cells.rt` and `list_tests/src/plans.rt`.

@@ -15,6 +15,8 @@ mod least_words;
 #[cfg(test)]
 mod messages;
 #[cfg(test)]
+mod nearest_words;
+#[cfg(test)]
 mod places;
 #[cfg(test)]
 mod punctured_blocks;

@@ -23,9 +23,9 @@ use Rattle.lte_top.specs.declared.reading.Signal.{Signal}
 
 -- ---- one transmission scheme
 
--- the cell list for one transmission scheme, as defined by the scheme's receiver. It contains every cell that is heard
--- (`IsHeardBy`). Among these are all cells that are received through channels (`IsCellThrough`), and all for which the
--- recording is faithful or clean.
+-- the cell list for one transmission scheme, as defined by the scheme's receiver. It contains every cell that is nearest
+-- at each of its PSS detections (`IsCellNearest`), and every cell that is heard (`IsHeardBy`). Among the latter are all
+-- cells that are received through channels (`IsCellThrough`), and all for which the recording is faithful or clean.
 abbrev pub IsListOf : Carrier → List Sample → List Entry → Type 0
 IsListOf carrier = IsListBy (receiver_of carrier)
 

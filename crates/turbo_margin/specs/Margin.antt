@@ -43,7 +43,6 @@ IsAheadBy margin v word =
 -- contradict the word by less than the margin in all; its priors do not matter.
 pub record HasMargin (row : Row) (word : List Bool) (sums : List (List ℤ)) : Type 0 where
   pub margin : ℕ
-  pub some : 0 < margin
   pub most : margin ≤ 500
   pub ahead : IsAheadBy margin (first_values row sums) word
   pub own : (k : ℕ) → k < row.k → disagreement (sum_at sums 0 k) (bit_at word k) ≤ 3 * margin
