@@ -10,7 +10,7 @@ use std::test::Fail;
 // The evidence for the lists of the plain cell's recording.
 const OF_PLAIN: &str = "rule one-port
 evidence 1
-0 0 0 t 832 peak 1000 cost 0 total 32162 frames 1 frame 0 phase 0 power 1590713504 noise 6886
+0 0 0 t 832 peak 1000 cost 0 total 32162 frames 1 frame 0 phase 0 power 1590713504 noise 6886 room 4018
 rule two-ports
 evidence 0
 rule long-prefix
@@ -23,14 +23,14 @@ evidence 0
 // too.
 const OF_FOUR_PORTS: &str = "rule one-port
 evidence 1
-90 19110 91 t 742 peak 999 cost 3040 total 24017 frames 1 frame 0 phase 3 power 39787152048 noise 230723
+90 19110 91 t 742 peak 999 cost 3040 total 24017 frames 1 frame 0 phase 3 power 39787152048 noise 230723 room -2879
 rule two-ports
 evidence 0
 rule long-prefix
 evidence 0
 rule four-ports
 evidence 1
-90 19110 91 t 742 peak 999 cost 0 total 32180 frames 1 frame 0 phase 3 power 112936696441 noise 1156722
+90 19110 91 t 742 peak 999 cost 0 total 32180 frames 1 frame 0 phase 3 power 112936696441 noise 1156722 room 3838
 ";
 
 #[test]
