@@ -2,10 +2,12 @@
 
 ghost use Rattle.std.specs.Prelude.{◌≡◌, ◌++◌, IfOk, OnOk, string_bytes};
 ghost use Rattle.std.specs.List.{flat_map};
-ghost use Rattle.accumulated_report.specs.Text.{place_part as place_of, support_part as support_of};
+ghost use Rattle.accumulated_report.specs.Text.{place_part as place_of};
 ghost use Rattle.accumulated_report.specs.Text.{cell_line as line_of, accumulated_head as head_of, accumulated_text};
 
+use crate::fields::cell_fields;
 use accumulated_list::DetectedCell;
+use report_parts::line_of_fields;
 use std::alloc::{AllocError, Global};
 use std::fmt::Write;
 
@@ -47,10 +49,10 @@ fn cell_line(alloc: Global, cell: &DetectedCell) -> Result<String, AllocError>
 {
     let id = cell.id.value();
     let subframe = cell.half.subframe();
-    let mut line = place_part(alloc, cell.position, id, subframe, cell.start)?;
-    let rest = support_part(alloc, cell.matches, cell.ratio, cell.power)?;
-    line.push_str(&rest)?;
-    Ok(line)
+    let place = place_part(alloc, cell.position, id, subframe, cell.start)?;
+    let fields = cell_fields(cell);
+    let all = &fields[..];
+    line_of_fields(alloc, &place, &all[4..])
 }
 
 // Returns the start of a cell's line: position, cell identity, subframe and frame start.
@@ -64,11 +66,4 @@ fn place_part(
     ensures { IfOk result (λ part. string_bytes part ≡ place_of t id subframe start) }
 {
     format!(in alloc; "{t} {id} {subframe} {start}")
-}
-
-// Returns the end of a cell's line: number of matches, mean ratio and power.
-fn support_part(alloc: Global, matches: u8, ratio: u16, power: u64) -> Result<String, AllocError>
-    ensures { IfOk result (λ part. string_bytes part ≡ support_of matches ratio power) }
-{
-    format!(in alloc; " matches {matches} ratio {ratio} power {power}\n")
 }

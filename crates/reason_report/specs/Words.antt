@@ -1,7 +1,6 @@
 -- The words that the text and the JSON of reasons share. (own)
-use Rattle.std.specs.Prelude.{ℕ, ◌*◌, Bool, nat_lt, nat_le, ◌&&◌, if◌then◌else◌, List, Option, Some, None, codes}
+use Rattle.std.specs.Prelude.{ℕ, ◌*◌, nat_lt, nat_le, ◌&&◌, if◌then◌else◌, List, Option, Some, None, codes}
 use Rattle.reasons.specs.declared.reason.Attempt.{Attempt}
-use Rattle.reasons.specs.declared.reason.StrongestPlace.{StrongestPlace}
 
 -- the rule that a cell without an accepted MIB fails: `ports` if a MIB for another antenna port count was decoded,
 -- `crc` if the minimum cost of a codeword is at most a quarter of `total`, and `cost` otherwise. With `crc`, the

@@ -3,6 +3,7 @@
 //! Tests: the crate `top_tests`, in `why.rt`.
 #![tactic(auto)]
 
+mod fields;
 mod json;
 mod text;
 mod words;

@@ -28,7 +28,7 @@ fn cost_word(cost: u32, total: u32) -> &'static str
 
 /// Returns the rule that an identity without a hit fails, by the energy fraction of its strongest PSS, in thousandths:
 /// `no-hit` below 250, otherwise `outside`.
-pub(crate) fn no_hit_word(ratio: u128) -> &'static str
+pub(crate) fn no_hit_word(ratio: u64) -> &'static str
     ensures { result.now ≡ no_hit_of ratio }
 {
     if ratio < 250 { "no-hit" } else { "outside" }

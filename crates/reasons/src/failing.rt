@@ -120,7 +120,7 @@ fn other_cell(recording: &Recording, hit: &Hit, carrier: Carrier, id: CellId) ->
 }
 
 // Returns the fraction of the energy at a hit that the primary signal explains, in thousandths, rounded down.
-fn ratio_of(hit: &Hit) -> u128
+fn ratio_of(hit: &Hit) -> u64
     requires span { IsInSpan hit.now }
     requires small { IsSmallHit hit.now }
     ensures { result ≡ ratio_in hit.now }

@@ -37,7 +37,7 @@ pub struct StrongestPlace {
     /// The sample, 128 to 19,345.
     pub t: u32,
     /// The fraction of the energy that the primary signal explains, in thousandths; at least 250 at a hit.
-    pub ratio: u128,
+    pub ratio: u64,
 }
 
 /// A hit that is too early: the useful part of the preceding symbol, which carries the secondary signal, begins before
@@ -47,7 +47,7 @@ pub struct EarlyHit {
     /// The sample of the hit.
     pub t: u32,
     /// The fraction of the energy that the signal explains, in thousandths.
-    pub ratio: u128,
+    pub ratio: u64,
     /// The first sample at which a hit is late enough: the useful part of the preceding symbol then begins within the
     /// recording.
     pub step: usize,
@@ -59,7 +59,7 @@ pub struct OtherCell {
     /// The sample of the hit.
     pub t: u32,
     /// The fraction of the energy that the signal explains, in thousandths.
-    pub ratio: u128,
+    pub ratio: u64,
     /// The identity of the hit's cell.
     pub id: CellId,
     /// The identity group and the half-frame with the maximum score, with that score.
@@ -74,7 +74,7 @@ pub struct UnreadCell {
     /// The sample of the hit.
     pub t: u32,
     /// The fraction of the energy that the signal explains, in thousandths.
-    pub ratio: u128,
+    pub ratio: u64,
     /// The sample at which the first frame starts.
     pub start: u32,
     /// The attempt to decode a MIB from the first frame, at the phase at which it is closest to one.

@@ -25,7 +25,7 @@ pub(crate) fn hits_and_place(recording: &Recording, n2: u8, list: &mut HitList) 
 }
 
 /// Returns the fraction of the energy that the PSS explains, in thousandths, rounded down; 0 without energy.
-pub(crate) fn thousandths(peak: u128, energy: u64, n2: u8) -> u128
+pub(crate) fn thousandths(peak: u128, energy: u64, n2: u8) -> u64
     requires member { n2 ≤ 2 }
     requires peak { peak < 2 ^ 70 }
     ensures { result ≡ thousandths_of peak energy n2 }
@@ -34,5 +34,5 @@ pub(crate) fn thousandths(peak: u128, energy: u64, n2: u8) -> u128
         return 0;
     }
     let whole = energy as u128 * signal_power(n2) as u128;
-    1000 * peak / whole
+    (1000 * peak / whole) as u64
 }

@@ -23,7 +23,8 @@ use Rattle.soft_bits.specs.Kept.{SeenLine}
 use Rattle.evidence.specs.Shown.{Shown}
 use Rattle.report_json.specs.Hits.{choice_value, ranking_value, id_value}
 use Rattle.hit_details.specs.declared.hits.MeasuredId.{MeasuredId}
-use Rattle.report_json.specs.Values.{natural, integer, list_of, or_null}
+use Rattle.report_parts.specs.Fields.{natural, integer, list_of}
+use Rattle.report_json.specs.Values.{or_null}
 use Rattle.report_json.specs.Cells.{plmn_value, message_value, tdd_value, sib1_value, system_value, entry_value}
 use Rattle.report_json.specs.All.{ruled_value, ruled_values, all_value}
 use Rattle.report_json.specs.Evidence.{complex_value, port_value, pairs_value, bits_value, support_value}

@@ -4,7 +4,8 @@ use Rattle.std.specs.List.{flat_map}
 use Rattle.serde_json.specs.Data.{Data}
 use Rattle.serde_json.specs.View.{items_of}
 use Rattle.serde_json.specs.Written.{compact_text, items_text}
-use Rattle.report_json.specs.Values.{list_of, after_comma}
+use Rattle.report_parts.specs.Fields.{list_of}
+use Rattle.report_json.specs.Values.{after_comma}
 
 -- each item after the first is preceded by a comma, and a bracket ends the array
 pub rest_text : {A : Type 0} (value : A → Data) (xs : List A) → items_text true (items_of (map value xs)) ≡ flat_map (after_comma value) xs ++ (93 ∷ [])

@@ -6,7 +6,7 @@ use Rattle.serde_json.specs.Written.{compact_text}
 use Rattle.lte_types.specs.declared.entry.Entry.{Entry}
 use Rattle.successive_cancel.specs.declared.round.Round.{Round}
 use Rattle.successive_cancel.proofs.Once.{one_made}
-use Rattle.report_json.specs.Values.{list_of}
+use Rattle.report_parts.specs.Fields.{list_of}
 use Rattle.report_json.specs.Cells.{report_value}
 use Rattle.report_json.specs.Rounds.{round_value, rounds_json, IsOneCancelJson}
 

@@ -13,7 +13,8 @@ use Rattle.lte_types.specs.Block.{br, rest}
 use Rattle.lte_types.specs.Codes.{bandwidth_word, duration_word, period_frames, resource_word, window_length}
 use Rattle.lte_types.specs.Reasons.{reason_words}
 use Rattle.report_parts.specs.Words.{mnc_word}
-use Rattle.report_json.specs.Values.{natural, integer, or_null, list_of}
+use Rattle.report_parts.specs.Fields.{natural, integer, list_of}
+use Rattle.report_json.specs.Values.{or_null}
 use Rattle.report_parts.specs.Words.{digits_word}
 
 -- the object for a network identity (PLMN); its digits are strings, to keep leading zeros

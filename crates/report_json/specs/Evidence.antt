@@ -9,7 +9,8 @@ use Rattle.soft_bits.specs.Kept.{SeenLine}
 use Rattle.evidence.specs.declared.measured.Measured.{Measured}
 use Rattle.evidence.specs.Evidence.{SlotShown}
 use Rattle.evidence.specs.Shown.{Shown}
-use Rattle.report_json.specs.Values.{integer, list_of, put_each}
+use Rattle.report_parts.specs.Fields.{integer, list_of}
+use Rattle.report_json.specs.Values.{put_each}
 use Rattle.report_parts.specs.Numbers.{numbers_in, place_in}
 use Rattle.report_parts.specs.Words.{hex_word}
 

@@ -6,7 +6,7 @@ use Rattle.lte_types.specs.declared.hit.Hit.{Hit}
 use Rattle.lte_types.specs.Numerology.{subframe_of}
 use Rattle.sss_detect.specs.declared.rank.Choice.{Choice}
 use Rattle.sss_detect.specs.declared.rank.Ranking.{Ranking}
-use Rattle.report_json.specs.Values.{natural, integer, list_of}
+use Rattle.report_parts.specs.Fields.{natural, integer, list_of}
 use Rattle.hit_details.specs.declared.hits.IdentifiedHit.{IdentifiedHit}
 use Rattle.hit_details.specs.declared.hits.MeasuredHit.{MeasuredHit}
 use Rattle.hit_details.specs.declared.hits.MeasuredId.{MeasuredId}

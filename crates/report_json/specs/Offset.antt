@@ -7,7 +7,8 @@ use Rattle.frequency_offset.specs.declared.candidate.Candidate.{Candidate}
 use Rattle.frequency_offset.specs.declared.estimation.OffsetEstimate.{OffsetEstimate}
 use Rattle.frequency_offset.specs.Candidates.{taken_of}
 use Rattle.frequency_offset.specs.Estimation.{IsEstimated}
-use Rattle.report_json.specs.Values.{natural, integer, or_null, list_of}
+use Rattle.report_parts.specs.Fields.{natural, integer, list_of}
+use Rattle.report_json.specs.Values.{or_null}
 
 -- the object for an estimate: the number of cells, the number of hits, and the offset in steps of 117.1875 Hz as `turn`
 abbrev pub estimate_value : OffsetEstimate → Data

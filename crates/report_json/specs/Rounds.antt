@@ -7,7 +7,7 @@ use Rattle.cell_plan.specs.Pair.{gain_of}
 use Rattle.successive_cancel.specs.declared.round.Round.{Round}
 use Rattle.successive_cancel.specs.declared.round.Rounds.{Rounds}
 use Rattle.successive_cancel.specs.Rounds.{IsCancelled}
-use Rattle.report_json.specs.Values.{natural, list_of}
+use Rattle.report_parts.specs.Fields.{natural, list_of}
 use Rattle.report_json.specs.Cells.{report_value}
 use Rattle.report_json.specs.Evidence.{complex_value}
 use Rattle.report_parts.specs.Words.{power_word}

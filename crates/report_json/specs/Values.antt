@@ -1,26 +1,13 @@
 -- Values in JSON. (own)
-use Rattle.std.specs.Prelude.{◌≡◌, ℕ, ℤ, List, [], ◌∷◌, ◌++◌, map, codes, false, Option, Some, None}
-use Rattle.serde_json.specs.Data.{Data, null, number, unsigned, array, Members, put}
-use Rattle.serde_json.specs.Find.{of_integer}
-use Rattle.serde_json.specs.View.{items_of}
+use Rattle.std.specs.Prelude.{◌≡◌, ℕ, List, [], ◌∷◌, ◌++◌, codes, false, Option, Some, None}
+use Rattle.serde_json.specs.Data.{Data, null, Members, put}
 use Rattle.serde_json.specs.Written.{compact_text, has_float}
-
--- the JSON number for a natural number
-abbrev pub natural : ℕ → Data
-natural n = number (unsigned n)
-
--- the JSON number for an integer
-abbrev pub integer : ℤ → Data
-integer z = number (of_integer z)
+use Rattle.report_parts.specs.Fields.{natural}
 
 -- the JSON of a value, or null if it is absent
 abbrev pub or_null : {A : Type 0} → (A → Data) → Option A → Data
 or_null value None = null
 or_null value (Some x) = value x
-
--- the JSON array of a list, with `value` applied to each item
-abbrev pub list_of : {A : Type 0} → (A → Data) → List A → Data
-list_of value xs = array (items_of (map value xs))
 
 -- `members`, with each named number added under its name
 abbrev pub put_each : List (List ℕ × ℕ) → Members → Members

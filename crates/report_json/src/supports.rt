@@ -7,7 +7,7 @@
 
 ghost use Rattle.std.specs.Prelude.{◌≡◌, IfOk, OnOk, string_bytes};
 ghost use Rattle.serde_json.specs.View.{view, members_view};
-ghost use Rattle.report_json.specs.Values.{integer, list_of};
+ghost use Rattle.report_parts.specs.Fields.{integer, list_of};
 ghost use Rattle.report_json.specs.Evidence.{slot_members, complex_value, port_value};
 ghost use Rattle.report_json.specs.Evidence.{block_members, bits_value as bits_value_of};
 ghost use Rattle.report_json.specs.Evidence.{measured_members, shown_members, support_value, evidence_json};

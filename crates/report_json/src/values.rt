@@ -5,7 +5,8 @@ ghost use Rattle.std.specs.List.{flat_map};
 ghost use Rattle.serde_json.specs.Data.{Data, array, item, no_items};
 ghost use Rattle.serde_json.specs.View.{view};
 ghost use Rattle.serde_json.specs.Written.{compact_text};
-ghost use Rattle.report_json.specs.Values.{natural, list_of, HasNoFloat, after_comma};
+ghost use Rattle.report_parts.specs.Fields.{natural, list_of};
+ghost use Rattle.report_json.specs.Values.{HasNoFloat, after_comma};
 
 use serde_json::{Value, json};
 use std::alloc::{AllocError, Global};

@@ -1,2 +1,4 @@
 pub mod Zipped
 mod Hex
+mod NoFloat
+pub mod Order

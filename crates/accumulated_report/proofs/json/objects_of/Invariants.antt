@@ -1,6 +1,7 @@
-use Rattle.std.proofs.Common.{◌≡◌, take, map, string_bytes}
-use Rattle.accumulated_report.specs.Json.{cell_json}
+use Rattle.std.proofs.Common.{◌≡◌, take, map}
+use Rattle.report_parts.specs.Values.{data_of}
+use Rattle.accumulated_report.specs.Json.{cell_value}
 use Rattle.accumulated_report.proofs.json.objects_of.Given as goal
 
 abbrev pub invariant-loop-cell : goal.invariant-loop-cell
-invariant-loop-cell l = map string_bytes l.objects.items ≡ map cell_json (take l.cell-index l.cells)
+invariant-loop-cell l = map data_of l.objects.items ≡ map cell_value (take l.cell-index l.cells)
