@@ -35,6 +35,7 @@ class Parser(argparse.ArgumentParser):
 
 GREATEST = 1e15  # absolute value of a number
 FASTEST = 1e10  # samples per second
+SLOWEST = 1e3  # samples per second: a lower number was meant in millions
 SHORTEST = 0.001  # seconds from one window to the next
 
 
@@ -60,6 +61,8 @@ def positive(text: str) -> float:
 def rate(text: str) -> float:
     """Returns a number of samples per second."""
     value = positive(text)
+    if value < SLOWEST:
+        raise argparse.ArgumentTypeError(f"{text} is in samples per second; {text} million are {text}e6")
     if value > FASTEST:
         raise argparse.ArgumentTypeError(f"{text} is above {FASTEST:g} samples per second")
     return value

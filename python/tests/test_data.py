@@ -252,6 +252,15 @@ def test_arguments_that_are_refused(tool, words):
     assert is_one_line(tool("survey", *words))
 
 
+def test_refusals_name_the_next_step(tool):
+    for name, words in (("to_ci16", ["u8", "2.4"]), ("survey", ["x.cu8", "--rate", "2.4"])):
+        run = tool(name, *words)
+        assert is_one_line(run) and "2.4 million are 2.4e6" in run.err
+    run = tool("to_ci16", "x.cu8")
+    assert is_one_line(run) and "< FILE" in run.err
+    assert is_one_line(tool("picture", "x.ci16", "-o", "x.gif"))
+
+
 def test_help_and_parsers(tool):
     from lte_tools import add_noise, add_recordings, check_certificate, gr_to_ci16, picture, survey, to_ci16
 
