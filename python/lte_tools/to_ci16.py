@@ -25,7 +25,7 @@ import numpy as np
 from scipy import signal
 
 from . import machine, radio, rates
-from .arguments import Parser, not_negative, number
+from .arguments import Parser, form as form_argument, not_negative, number
 from .arguments import rate as rate_argument
 from .forms import FORMS, is_number
 
@@ -65,11 +65,11 @@ def converted(x: radio.Complex, rate: float, shift: float, to: int = radio.RATE)
 
 def form_of(text: str) -> str:
     """Returns a number format; the reason of a refusal names the form of the command, in case the text is a file."""
-    if text not in FORMS:
+    if form_argument(text) not in FORMS:
         raise argparse.ArgumentTypeError(
             f"{text!r} is not u8, s8, s16 or f32 (a file is read from standard input: lte_convert u8 2.4e6 < FILE)"
         )
-    return text
+    return form_argument(text)
 
 
 def parser() -> argparse.ArgumentParser:
