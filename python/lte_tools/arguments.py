@@ -7,6 +7,8 @@ from typing import Any, NoReturn
 
 
 VERSION = "0.9.0"  # of the tools, as pyproject.toml has it
+MULTIPLES = {"k": 1e3, "M": 1e6}  # of hertz, and of samples per second
+SLOWEST = 1e3  # samples per second: a lower number was meant in millions
 
 
 class Parser(argparse.ArgumentParser):
@@ -35,20 +37,7 @@ class Parser(argparse.ArgumentParser):
 
 GREATEST = 1e15  # absolute value of a number
 FASTEST = 1e10  # samples per second
-SLOWEST = 1e3  # samples per second: a lower number was meant in millions
 SHORTEST = 0.001  # seconds from one window to the next
-MULTIPLES = {"k": 1e3, "M": 1e6}  # of hertz, and of samples per second
-# number formats by the ends of files' names, which are also the names that SigMF and lte_cli have
-# fmt: off
-SUFFIXES = {"cu8": "u8", "u8": "u8", "cs8": "s8", "ci8": "s8", "s8": "s8", "ci16": "s16", "cs16": "s16", "sc16": "s16",
-            "s16": "s16", "cf32": "f32", "fc32": "f32", "f32": "f32", "cfile": "f32", "sigmf-meta": "sigmf",
-            "sigmf-data": "sigmf", "sigmf": "sigmf"}
-# fmt: on
-
-
-def form(text: str) -> str:
-    """Returns the name that the tools have for a number format."""
-    return SUFFIXES.get(text, text)
 
 
 def number(text: str) -> float:
@@ -131,3 +120,16 @@ def at_least_one(text: str) -> int:
     if value < 1:
         raise argparse.ArgumentTypeError(f"{text} is not above 0")
     return value
+
+
+# number formats by the ends of files' names, which are also the names that SigMF and lte_cli have
+# fmt: off
+SUFFIXES = {"cu8": "u8", "u8": "u8", "cs8": "s8", "ci8": "s8", "s8": "s8", "ci16": "s16", "cs16": "s16", "sc16": "s16",
+            "s16": "s16", "cf32": "f32", "fc32": "f32", "f32": "f32", "cfile": "f32", "sigmf-meta": "sigmf",
+            "sigmf-data": "sigmf", "sigmf": "sigmf"}
+# fmt: on
+
+
+def form(text: str) -> str:
+    """Returns the name that the tools have for a number format."""
+    return SUFFIXES.get(text, text)

@@ -13,7 +13,8 @@ from dataclasses import dataclass
 from typing import Any, TypeVar, Union
 
 from . import bands, machine, track
-from .arguments import Parser, apart, at_least_one, decibels, form, gain, limits, not_negative, number, rate
+from .arguments import Parser, apart, at_least_one, decibels, gain, limits, not_negative, number, rate
+from .arguments import form as form_argument
 from .machine import Refused
 
 WINDOW = 0.17  # seconds of a window: the 17 frames that a list depends on
@@ -137,7 +138,7 @@ def add_file_arguments(parser: Any, **keys: Any) -> None:
     """Adds what a tool asks of a file; `keys` say how many there may be."""
     parser.add_argument("file", metavar="FILE", type=pathlib.Path, **keys)
     says = "by the file's name where it is left out, else s16"
-    parser.add_argument("--form", "--format", type=form, choices=FORMS, help=says)
+    parser.add_argument("--form", "--format", type=form_argument, choices=FORMS, help=says)
     parser.add_argument("--rate", type=rate, help="samples per second; of SigMF and WAV what they say, else 1.92e6")
     parser.add_argument("--shift", type=number, help="hertz above the file's centre at which the cell stands (0)")
     parser.add_argument(
