@@ -5,16 +5,17 @@ import textwrap
 WIDTH = 78
 SPANS = re.compile(r"`([^`]+)`|\*\*([^*]+)\*\*")
 ITEM = re.compile(r"(-|\d+\.) ")
+OPTION = re.compile(r"(?<![\w-])--?[A-Za-z][\w-]*")
 
 
 def plain(text):
-    """Returns a text whose backslashes are not escapes."""
-    return text.replace("\\", r"\e")
+    """Returns a text whose backslashes are not escapes, and whose options can be copied from the page."""
+    return OPTION.sub(lambda found: found[0].replace("-", r"\-"), text.replace("\\", r"\e"))
 
 
 def exact(text):
     """Returns a text whose hyphens, quotes and accents stay ASCII, so that it can be copied from the page."""
-    text = plain(text)
+    text = text.replace("\\", r"\e")
     for character, escape in (("-", r"\-"), ("'", r"\(aq"), ("`", r"\(ga"), ("^", r"\(ha"), ("~", r"\(ti")):
         text = text.replace(character, escape)
     return text

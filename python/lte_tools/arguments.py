@@ -7,6 +7,8 @@ from typing import Any, NoReturn
 
 
 VERSION = "0.9.0"  # of the tools, as pyproject.toml has it
+MULTIPLES = {"k": 1e3, "M": 1e6}  # of hertz, and of samples per second
+SLOWEST = 1e3  # samples per second: a lower number was meant in millions
 
 
 class Parser(argparse.ArgumentParser):
@@ -40,9 +42,9 @@ MOST_PROCESSES = 1_024
 
 
 def number(text: str) -> float:
-    """Returns a number whose absolute value is not above GREATEST."""
+    """Returns a number whose absolute value is not above GREATEST; `k` or `M` after it multiply it, as in 2.4M."""
     try:
-        value = float(text)
+        value = float(text[:-1]) * MULTIPLES[text[-1:]] if text[-1:] in MULTIPLES else float(text)
     except ValueError:
         raise argparse.ArgumentTypeError(f"{text!r} is not a number") from None
     if not abs(value) <= GREATEST:
@@ -61,6 +63,8 @@ def positive(text: str) -> float:
 def rate(text: str) -> float:
     """Returns a number of samples per second."""
     value = positive(text)
+    if value < SLOWEST:
+        raise argparse.ArgumentTypeError(f"{text} is in samples per second; {text} million are {text}e6")
     if value > FASTEST:
         raise argparse.ArgumentTypeError(f"{text} is above {FASTEST:g} samples per second")
     return value
@@ -141,3 +145,16 @@ def processes(text: str) -> int:
     if not 1 <= value <= MOST_PROCESSES:
         raise argparse.ArgumentTypeError(f"{text} is not a number from 1 to {MOST_PROCESSES:,}")
     return value
+
+
+# number formats by the ends of files' names, which are also the names that SigMF and lte_cli have
+# fmt: off
+SUFFIXES = {"cu8": "u8", "u8": "u8", "cs8": "s8", "ci8": "s8", "s8": "s8", "ci16": "s16", "cs16": "s16", "sc16": "s16",
+            "s16": "s16", "cf32": "f32", "fc32": "f32", "f32": "f32", "cfile": "f32", "sigmf-meta": "sigmf",
+            "sigmf-data": "sigmf", "sigmf": "sigmf"}
+# fmt: on
+
+
+def form(text: str) -> str:
+    """Returns the name that the tools have for a number format."""
+    return SUFFIXES.get(text, text)

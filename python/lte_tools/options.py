@@ -27,6 +27,7 @@ from .arguments import (
     rate,
     side,
 )
+from .arguments import form as form_argument
 from .machine import Refused
 
 WINDOW = 0.17  # seconds of a window: the 17 frames that a list depends on
@@ -158,7 +159,8 @@ def options_of(kind: type[T], args: argparse.Namespace) -> T:
 def add_file_arguments(parser: Any, **keys: Any) -> None:
     """Adds what a tool asks of a file; `keys` say how many there may be."""
     parser.add_argument("file", metavar="FILE", type=pathlib.Path, **keys)
-    parser.add_argument("--form", choices=FORMS, help="by the file's name where it is left out, else s16")
+    says = "by the file's name where it is left out, else s16"
+    parser.add_argument("--form", "--format", type=form_argument, choices=FORMS, help=says)
     parser.add_argument("--rate", type=rate, help="samples per second; of SigMF and WAV what they say, else 1.92e6")
     parser.add_argument("--shift", type=number, help="hertz above the file's centre at which the cell stands (0)")
     parser.add_argument(

@@ -82,7 +82,7 @@ def of_survey(found: Survey, given: PictureOptions, form: str) -> bytes:
 def form_of(out: pathlib.Path) -> str:
     """Returns the form of the output; refuses one that cannot be written."""
     if out.suffix not in (".png", ".svg", ".html"):
-        raise Refused(f"{out}: .png, .svg or .html is written")
+        raise Refused(f"{out}: the name has to end in .png, .svg or .html")
     machine.check_place(out)
     return out.suffix[1:]
 

@@ -59,8 +59,8 @@ def frequency_unit(view: View) -> tuple[str, float, float]:
     if view.centre:
         return "MHz", 1e6, view.centre / 1e6
     if view.seen.rate > MHZ:
-        return "MHz beside the file's centre", 1e6, 0
-    return "kHz beside the file's centre", 1e3, 0
+        return "offset from centre, MHz", 1e6, 0
+    return "offset from centre, kHz", 1e3, 0
 
 
 def draw_waterfall(ax: Any, view: View, scale: float, centre: float) -> None:
@@ -93,7 +93,7 @@ def draw_waterfall(ax: Any, view: View, scale: float, centre: float) -> None:
         ticks.set(clip_on=False, in_layout=False)
     ax.set(xlabel="ms")
     ax.grid(False)
-    ax.set_title("The file as recorded" + ("; ticks: samples at full scale" if seen.at_full.any() else ""), pad=9)
+    ax.set_title("The file as recorded" + ("; ticks: clipped samples" if seen.at_full.any() else ""), pad=9)
     ax.figure.colorbar(image, ax=ax, label="dBFS in 15 kHz", pad=0.01)
 
 
@@ -101,7 +101,7 @@ def draw_mean_spectrum(ax: Any, view: View, scale: float, centre: float) -> None
     """Draws the mean and the greatest power of each 15 kHz."""
     places = centre + view.seen.frequencies / scale
     greatest, mean = (10 * np.log10(part + 1e-20) for part in (view.seen.power.max(1), view.seen.power.mean(1)))
-    ax.plot(greatest, places, ls=":", lw=0.9, color=COLOURS[5], label="greatest")
+    ax.plot(greatest, places, ls=":", lw=0.9, color=COLOURS[5], label="maximum")
     ax.plot(mean, places, lw=1, color=COLOURS[0], label="mean")
     ax.axhspan(centre + (view.carrier - BAND) / scale, centre + (view.carrier + BAND) / scale, color="#eeeeee")
     ax.set(xlim=SCALE, xlabel="dBFS in 15 kHz", xticks=range(-120, 1, 30))
@@ -130,19 +130,19 @@ def draw_metric(ax: Any, view: View) -> None:
         ax.plot(
             places, 100 * part, LINES[n2], lw=0.8, color=COLOURS[n2], label=f"N2 = {n2} (root {radio.PSS_ROOTS[n2]})"
         )
-    ax.axhline(25, color="#b8383d", ls=(0, (6, 3)), lw=1, label="a hit from 25 % on")
+    ax.axhline(25, color="#b8383d", ls=(0, (6, 3)), lw=1, label="threshold 25 %")
     draw_hits(ax, view)
     ax.set(
         xlim=(1000 * reference.FIRST / radio.RATE, 1000 * LAST / radio.RATE), ylim=(0, 150), yticks=range(0, 101, 25)
     )
-    ax.set(xlabel="ms: hits are looked for in a frame's length", ylabel="% of 128 samples' energy", xticks=range(1, 11))
-    ax.set_title("Primary signal: how much of the energy it explains")
+    ax.set(xlabel="ms (one frame is searched)", ylabel="% of 128 samples' energy", xticks=range(1, 11))
+    ax.set_title("PSS correlation: fraction of the energy")
     lines, _ = ax.get_legend_handles_labels()
     triangle: dict[str, Any] = {"marker": "v", "ls": "", "ms": 6, "color": "#444444"}
     lines.append(Line2D([], [], **triangle, label="hit of a listed cell,\nnamed by its list"))
     lines.append(Line2D([], [], **triangle, mfc="white", label="hit of no listed cell"))
-    lines.append(Line2D([], [], ls="", label="?  two hits tell this PCI,\n    no list has it"))
-    lines.append(Line2D([], [], ls="", label="no name: it is not sure"))
+    lines.append(Line2D([], [], ls="", label="?  PCI of two detections,\n    not listed"))
+    lines.append(Line2D([], [], ls="", label="unlabelled: uncertain"))
     ax.legend(handles=lines, loc="upper left", bbox_to_anchor=(1.005, 1.05), frameon=False, fontsize=7.5)
 
 
@@ -210,8 +210,8 @@ def draw_points(ax: Any, values: Sequence[int]) -> None:
     ax.axhline(0, color="#555555", lw=0.6)
     ax.axvline(0, color="#555555", lw=0.6)
     ax.set(xlim=(-134, 134), ylim=(-134, 134), xticks=(-127, 0, 127), yticks=(-127, 0, 127))
-    ax.set(xlabel="value of the first bit", ylabel="value of the second bit")
-    ax.set_title("Broadcast channel")
+    ax.set(xlabel="soft value, bit 0", ylabel="soft value, bit 1")
+    ax.set_title("PBCH constellation")
     ax.set_aspect("equal", anchor="W")
 
 
@@ -257,7 +257,7 @@ def draw_channel(
         phases.set(ylim=(-198, 198), yticks=range(-180, 181, 90 * rows))
         phases.grid(False)
         if i % columns == 0:
-            ax.set_ylabel("size, dBFS (line)", color=COLOURS[0], **small)
+            ax.set_ylabel("magnitude, dBFS (line)", color=COLOURS[0], **small)
         if i % columns == columns - 1:
             phases.set_ylabel("phase, degrees (x)", color=COLOURS[1], **small)
         else:
@@ -275,11 +275,11 @@ def draw_values(ax: Any, reading: Reading) -> None:
     reach = max(1, max(abs(value) for value in reading.agreement))
     edges = np.linspace(-reach, reach, 42)
     values = np.array(reading.agreement)
-    for part, colour, name in ((values >= 0, COLOURS[2], "for"), (values < 0, COLOURS[4], "against")):
+    for part, colour, name in ((values >= 0, COLOURS[2], "agree"), (values < 0, COLOURS[4], "disagree")):
         ax.hist(values[part], edges, color=colour, label=name, histtype="stepfilled")
     ax.set(xlabel="sum of a coded bit's soft values", ylabel="coded bits of 120")
     ax.set_xlim(-1.03 * reach, 1.03 * reach)
-    ax.set_title(f"Master block: {reading.cost:,} of {reading.total:,} against it")
+    ax.set_title(f"MIB soft bits: {reading.cost:,} of {reading.total:,} disagree")
     ax.legend(loc="upper left", frameon=False, fontsize=7.5)
 
 

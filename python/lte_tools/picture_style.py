@@ -72,7 +72,7 @@ def facts_of(form: str, rate: float, carrier: float | None, shift: float) -> lis
     if carrier:
         facts.append(f"carrier {carrier_text(carrier)}")
     if shift:
-        facts.append(f"{shift:+,.0f} Hz beside the file's centre")
+        facts.append(f"{shift:+,.0f} Hz from the file's centre")
     return facts
 
 

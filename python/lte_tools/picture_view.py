@@ -164,9 +164,9 @@ class View:
         lines = [
             f"{seen.count:,} samples at {seen.rate / 1e6:.10g} Ms/s",
             f"mean {dbfs(seen.mean)}",
-            f"greatest component {dbfs(seen.greatest ** 2)}",
+            f"maximum component {dbfs(seen.greatest ** 2)}",
             f"DC {dbfs(seen.dc)}, {'left as it is' if self.is_as_it_is else 'taken off for what follows'}",
-            f"at full scale: {share_text(seen.share_at_full)} of the samples",
+            f"clipped samples: {share_text(seen.share_at_full)}",
             *(["the cell's 1.08 MHz are not all in the file"] if self.is_beyond else []),
             *still[:3],
             *([f"and {len(still) - 3} more constant stretches"] if still[3:] else []),
@@ -236,7 +236,7 @@ def view_of(options: PictureOptions, file: RadioFile) -> View:
     recording = programs.Recording(data)
     shift, time = file.shift_at(round(start * file.rate)), file.time_at(start)
     facts = facts_of(file.form, file.rate, file.carrier, shift)
-    facts.append(f"{1000 * seconds:,.0f} ms from second {start:g} on" + (f" ({time})" if time else ""))
+    facts.append(f"{1000 * seconds:,.0f} ms from second {start:g}" + (f" ({time})" if time else ""))
     facts += [f"{offset:+,.0f} Hz taken off"] * bool(offset) + ["no offset taken off: it is a guess"] * is_guess
     if options.title:
         facts.insert(0, file.path.name)

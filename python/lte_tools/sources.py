@@ -11,6 +11,7 @@ from dataclasses import dataclass
 import numpy as np
 
 from . import names, radio, sigmf, track, wav
+from .arguments import SUFFIXES
 from .forms import FORMS, fault_of
 from .machine import Refused
 from .options import FileOptions
@@ -19,11 +20,6 @@ from .sigmf import Capture
 PROBES, PROBE = 16, 16_384  # places of a file that are looked at for its form, and components of each
 SAME_TIME = 2  # seconds by which the times of a header and of a name are one
 SAME_CENTRE = 1_000  # hertz by which their frequencies are one
-# fmt: off
-SUFFIXES = {"cu8": "u8", "u8": "u8", "cs8": "s8", "ci8": "s8", "s8": "s8", "ci16": "s16", "cs16": "s16", "sc16": "s16",
-            "s16": "s16", "cf32": "f32", "fc32": "f32", "f32": "f32", "cfile": "f32", "sigmf-meta": "sigmf",
-            "sigmf-data": "sigmf", "sigmf": "sigmf"}
-# fmt: on
 TEXT = bytes([*range(7, 14), 27, *range(32, 127)])
 
 

@@ -25,7 +25,7 @@ import numpy as np
 from scipy import signal
 
 from . import machine, radio, rates
-from .arguments import Parser, not_negative, number
+from .arguments import Parser, form as form_argument, not_negative, number
 from .arguments import rate as rate_argument
 from .forms import FORMS, is_number
 
@@ -63,10 +63,20 @@ def converted(x: radio.Complex, rate: float, shift: float, to: int = radio.RATE)
     return found[:to]
 
 
+def form_of(text: str) -> str:
+    """Returns a number format; the reason of a refusal names the form of the command, in case the text is a file."""
+    if form_argument(text) not in FORMS:
+        raise argparse.ArgumentTypeError(
+            f"{text!r} is not u8, s8, s16 or f32 (a file is read from standard input: lte_convert u8 2.4e6 < FILE)"
+        )
+    return form_argument(text)
+
+
 def parser() -> argparse.ArgumentParser:
     """Returns the parser of the arguments."""
     parser = Parser(__doc__, brief=True)
-    parser.add_argument("form", metavar="TYPE", choices=list(FORMS), help="number format: u8, s8, s16 or f32")
+    says = "number format: u8, s8, s16 or f32"
+    parser.add_argument("form", metavar="TYPE", type=form_of, choices=list(FORMS), help=says)
     parser.add_argument("rate", metavar="RATE", type=rate_argument, help="samples per second of the file")
     parser.add_argument(
         "shift",

@@ -338,7 +338,7 @@ def test_style():
     assert picture_style.dbfs(0) == "none" and picture_style.number_text(None) == "-"
     assert picture_style.facts_of("u8", 2.4e6, 796e6, 1e5)[1:] == [
         "carrier 796 MHz",
-        "+100,000 Hz beside the file's centre",
+        "+100,000 Hz from the file's centre",
     ]
 
 

@@ -1,4 +1,5 @@
 """Foreign JSON, the survey as dataclasses, packets, options, bands and forms."""
+import argparse
 import copy
 import datetime
 import json
@@ -250,6 +251,35 @@ def test_options_that_are_refused(words, text):
 )
 def test_arguments_that_are_refused(tool, words):
     assert is_one_line(tool("survey", *words))
+
+
+@pytest.mark.parametrize("text, value", (("2.4M", 2.4e6), ("-80k", -80e3), ("796e6", 796e6), ("1.92", 1.92)))
+def test_multiples(text, value):
+    assert arguments.number(text) == pytest.approx(value)
+
+
+@pytest.mark.parametrize("text", ("M", "2.4G", "2.4 M M", "2.4m", "nank"))
+def test_text_that_is_no_multiple(text):
+    with pytest.raises(argparse.ArgumentTypeError):
+        arguments.number(text)
+
+
+@pytest.mark.parametrize("words", (["--form", "cu8"], ["--format", "u8"], ["--format", "cu8", "--rate", "1.92M"]))
+def test_both_spellings_of_a_form(words):
+    from lte_tools import options, survey, to_ci16
+
+    args = survey.parser().parse_args(["x.bin", *words])
+    assert options.options_of(options.SurveyOptions, args).form == "u8" and args.rate in (None, 1.92e6)
+    assert to_ci16.parser().parse_args(["cu8", "2.4M"]).form == "u8"
+
+
+def test_refusals_name_the_next_step(tool):
+    for name, words in (("to_ci16", ["u8", "2.4"]), ("survey", ["x.cu8", "--rate", "2.4"])):
+        run = tool(name, *words)
+        assert is_one_line(run) and "2.4 million are 2.4e6" in run.err
+    run = tool("to_ci16", "x.cu8")
+    assert is_one_line(run) and "< FILE" in run.err
+    assert is_one_line(tool("picture", "x.ci16", "-o", "x.gif"))
 
 
 def test_help_and_parsers(tool):

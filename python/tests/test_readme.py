@@ -32,7 +32,7 @@ def test_columns_are_those_of_the_example():
     _, (_, head, _) = example(README, "lte_survey ")
     table = README.partition("| Column |")[2].partition("\n\n")[0]
     names = re.findall(r"^\| ((?:`[^`]+`(?:, )?)+) \|", table, re.M)
-    assert len(names) == 6
+    assert len(names) == 5
     assert [name for row in names for name in re.findall("`([^`]+)`", row) if name not in head] == []
 
 

@@ -70,6 +70,7 @@ def test_text_that_is_not_help(text):
     (
         ("a `b-c` d", [r"a \fBb\-c\fR d"]),
         (".dot", [r"\&.dot"]),
+        ("1-2, --gain-by and -o", [r"1-2, \-\-gain\-by and \-o"]),
         ("- one\n- two", [r".IP \(bu 2", "one", r".IP \(bu 2", "two"]),
         ("1. one", [".IP 1. 4", "one"]),
         ("    code 'x'", [".RS 4", ".EX", r"code \(aqx\(aq", ".EE", ".RE"]),

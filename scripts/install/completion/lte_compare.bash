@@ -4,7 +4,7 @@ _lte_compare() {
     local current=${COMP_WORDS[COMP_CWORD]} choices=''
     COMPREPLY=()
     case ${COMP_WORDS[COMP_CWORD - 1]} in
-        --form) choices='u8 s8 s16 f32 sigmf' ;;
+        --form | --format) choices='u8 s8 s16 f32 sigmf' ;;
         --rate) compopt +o default 2> /dev/null; return ;;
         --shift) compopt +o default 2> /dev/null; return ;;
         --carrier) compopt +o default 2> /dev/null; return ;;
@@ -20,7 +20,7 @@ _lte_compare() {
         --jobs) compopt +o default 2> /dev/null; return ;;
         --earfcn) compopt +o default 2> /dev/null; return ;;
         --html) return ;;
-        *) if [[ $current == -* ]]; then choices='-h --help --version --form --rate --shift --carrier --at --exchanged --channel --as --columns --fields --tolerance --every --offset --gain --jobs --scan --deep --earfcn --html --csv --json'; else return; fi ;;
+        *) if [[ $current == -* ]]; then choices='-h --help --version --form --format --rate --shift --carrier --at --exchanged --channel --as --columns --fields --tolerance --every --offset --gain --jobs --scan --deep --earfcn --html --csv --json'; else return; fi ;;
     esac
     mapfile -t COMPREPLY < <(compgen -W "$choices" -- "$current")
 }

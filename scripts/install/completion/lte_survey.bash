@@ -4,7 +4,7 @@ _lte_survey() {
     local current=${COMP_WORDS[COMP_CWORD]} choices=''
     COMPREPLY=()
     case ${COMP_WORDS[COMP_CWORD - 1]} in
-        --form) choices='u8 s8 s16 f32 sigmf' ;;
+        --form | --format) choices='u8 s8 s16 f32 sigmf' ;;
         --rate) compopt +o default 2> /dev/null; return ;;
         --shift) compopt +o default 2> /dev/null; return ;;
         --carrier) compopt +o default 2> /dev/null; return ;;
@@ -29,7 +29,7 @@ _lte_survey() {
         --coverage) compopt +o default 2> /dev/null; return ;;
         --grid) compopt +o default 2> /dev/null; return ;;
         --pollution) compopt +o default 2> /dev/null; return ;;
-        *) if [[ $current == -* ]]; then choices='-h --help --version --form --rate --shift --carrier --at --exchanged --channel --every --offset --gain --jobs --scan --deep --earfcn --follow --wait --track --gpsd --start --geojson --pcap --html --csv-windows --kml --plan --network --clashes --coverage --servers --grid --pollution --neighbours --classes --csv --json'; else return; fi ;;
+        *) if [[ $current == -* ]]; then choices='-h --help --version --form --format --rate --shift --carrier --at --exchanged --channel --every --offset --gain --jobs --scan --deep --earfcn --follow --wait --track --gpsd --start --geojson --pcap --html --csv-windows --kml --plan --network --clashes --coverage --servers --grid --pollution --neighbours --classes --csv --json'; else return; fi ;;
     esac
     mapfile -t COMPREPLY < <(compgen -W "$choices" -- "$current")
 }
