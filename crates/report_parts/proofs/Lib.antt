@@ -2,3 +2,4 @@ pub mod Zipped
 mod Hex
 mod NoFloat
 pub mod Order
+mod Ascending

@@ -58,7 +58,7 @@ text_of_fields fields = flat_map field_part fields
 abbrev pub line_of_fields : List ℕ → List NamedData → List ℕ
 line_of_fields head fields = head ++ text_of_fields fields ++ codes "\n"
 
--- ---- a law
+-- ---- laws
 
 -- the members of an object with the fields in the order of the list
 abbrev pub members_in : List NamedData → Members
@@ -73,3 +73,13 @@ AreAscending fields = IsStrictlySortedBy (slice_cmp nat_cmp) (map (λ field. fie
 abbrev pub AscendingFieldsStandInOrder : Type 0
 AscendingFieldsStandInOrder =
     (fields : List NamedData) → AreAscending fields → object_of fields ≡ object (members_in fields)
+
+-- the names of members, in order
+abbrev pub names_in : Members → List (List ℕ)
+names_in no_members = []
+names_in (member name value rest) = name ∷ names_in rest
+
+-- a law: the names of an object ascend, whatever the order of the fields
+abbrev pub NamesOfObjectsAscend : Type 0
+NamesOfObjectsAscend =
+    (fields : List NamedData) → IsStrictlySortedBy (slice_cmp nat_cmp) (names_in (put_fields fields no_members))

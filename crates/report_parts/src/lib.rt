@@ -11,7 +11,7 @@ mod value;
 mod words;
 
 pub use fields::{Field, json_of_fields, line_of_fields, object};
-pub use laws::ascending_fields_stand_in_order;
+pub use laws::{ascending_fields_stand_in_order, names_of_objects_ascend};
 pub use numbers::{Named, numbers_in, place_in};
 pub use value::Value;
 pub use words::{digits_word, hex_word, mnc_word, power_word, rule_word};
