@@ -14,8 +14,8 @@ from typing import Any, TypeVar, Union
 
 from . import bands, machine, track
 from .arguments import Parser, apart, at_least_one, decibels, gain, limits, not_negative, number, rate
-from .arguments import form as form_argument
 from .machine import Refused
+from .arguments import form as form_argument
 
 WINDOW = 0.17  # seconds of a window: the 17 frames that a list depends on
 EVERY_OF_SCAN = 10.0  # seconds from one window of a scan to the next
