@@ -431,7 +431,7 @@ def numpy_looks():
             lines_together,
         ),
         Look(
-            "README.md",
+            "docs/TUTORIAL.md",
             "$PY -m lte_reference.wide_sender --identity 301 --width 50 --ports 2 --snr 15 --frames 20"
             " | $PY -m lte_reference.wide_search 15.36 --ports 2",
             lines_together,
