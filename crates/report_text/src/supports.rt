@@ -26,7 +26,12 @@ impl ToLines for Measured {
 
     fn to_lines(&self, alloc: Global) -> Result<String, AllocError> {
         let numbers = &self.numbers;
-        let mut line = entry_part(alloc, numbers.id.value(), numbers.start, numbers.sfn.value())?;
+        let mut line = entry_part(
+            alloc,
+            numbers.id.value(),
+            numbers.start,
+            numbers.sfn.value(),
+        )?;
         add_lines(alloc, &numbers_in(numbers), &mut line)?;
         line.push_str(&room_part(alloc, self.room)?)?;
         line.push_str("\n")?;
