@@ -12,6 +12,7 @@ from .search import (
     ONE_PORT,
     PORTS,
     RULES,
+    TAPS,
     added,
     broadcast_values,
     coded_reading,
@@ -73,6 +74,18 @@ def read(r, entry, rule):
     raise ValueError(entry)
 
 
+def coded(word, count):
+    """The three coded bits at each index of a word (TS 36.212 section 5.1.3.1)."""
+    bits = [word >> count - 1 - i & 1 for i in range(count)]
+    return [[sum(bits[k - t] for t in taps) % 2 for taps in TAPS] for k in range(count)]
+
+
+def room(values, word):
+    """The sum of the 15 smallest values in the direction of the word's coded bits."""
+    rows = zip(values, coded(word, len(values)))
+    return sum(sorted(-value if bit else value for row, bits in rows for value, bit in zip(row, bits))[:15])
+
+
 def pilots(r, entry, j, rule):
     """Of each antenna port what was seen at the 24 or 12 reference places of slot 1, and the pilots, by subcarrier."""
     start, cell, *_ = entry
@@ -98,12 +111,14 @@ def line(r, detections, entry, rule):
     start, cell, sfn, *_ = entry
     t = min(t for t, place in detections if place == (cell, start))
     frames, j, phase, cost, total = read(r, entry, rule)
+    values = sums(r, entry, frames, j, phase, rule)
     ports = pilots(r, entry, j, rule)
     power = sum(24 // len(there) * (a * a + b * b) for there, _ in ports for a, b in there)
     noise = sum(bends(symbol) for _, its in ports for symbol in by_symbol(its)) // (6 * 16_200)
     return (
         f"{cell} {start} {sfn} t {t} peak {thousandths(r, t, cell % 3)} cost {cost} total {total} "
-        f"frames {frames} frame {j} phase {phase} power {power} noise {noise}"
+        f"frames {frames} frame {j} phase {phase} power {power} noise {noise} "
+        f"room {room(values, least(values)[1])}"
     )
 
 

@@ -1,5 +1,5 @@
 -- Measurements that support an entry in a cell list. (own)
-use Rattle.std.specs.Prelude.{◌≡◌, ℕ, ◌+◌, ◌-◌, ◌*◌, ◌/◌, ◌%◌, ◌<◌, ◌≤◌, if◌then◌else◌, List, [], ◌∷◌, ◌++◌, length, ℤ}
+use Rattle.std.specs.Prelude.{◌≡◌, ℕ, ◌+◌, ◌-◌, ◌*◌, ◌/◌, ◌%◌, ◌<◌, ◌≤◌, if◌then◌else◌, Bool, List, [], ◌∷◌, ◌++◌, length, ℤ}
 use Rattle.std.specs.List.{Contains}
 use Rattle.finite.specs.Sums.{total_below}
 use Rattle.cs_num.specs.declared.Cpx.{Cpx}
@@ -25,6 +25,9 @@ use Rattle.explain.specs.Frame.{broadcast_slot}
 use Rattle.explain.specs.Receiver.{Receiver, one_port_receiver, hits_by, place_by, sums_by}
 use Rattle.explain.specs.Entries.{place_of, frames_of}
 use Rattle.long_prefix.specs.Entries.{long_slot}
+use Rattle.tailbite.specs.LeastWord.{IsLeastWord}
+use Rattle.code_distance.specs.Room.{IsRoom}
+use Rattle.evidence.specs.declared.measured.Measured.{Measured}
 use Rattle.evidence.specs.Receivers.{receiver_of}
 
 -- ---- the PSS detection
@@ -129,6 +132,19 @@ pub record IsEvidenceFor (receiver : Receiver) (recording : List Sample) (entry 
 -- the measurements of an entry by the receiver for one antenna port
 abbrev pub IsEvidence : List Sample → Entry → Evidence → Type 0
 IsEvidence = IsEvidenceFor one_port_receiver
+
+-- `room` is the room of the word that is decoded from soft values: every other word costs at least this word's cost and
+-- the room
+pub record HasRoom (values : List (List ℤ)) (room : ℤ) : Type 0 where
+  pub word : List Bool
+  pub least : IsLeastWord values word
+  pub room_is : IsRoom values word room
+
+-- `measured` holds the entry's measurements by `receiver`, and the room of its MIB's codeword
+pub record IsMeasuredFor (receiver : Receiver) (recording : List Sample) (entry : Entry) (measured : Measured) :
+    Type 0 where
+  pub numbers : IsEvidenceFor receiver recording entry measured.numbers
+  pub room : HasRoom (sums_by receiver recording (place_of entry) (frames_of entry)) measured.room
 
 -- `numbers` are within the ranges of an entry's measurements
 pub record IsInRange (numbers : Evidence) : Type 0 where

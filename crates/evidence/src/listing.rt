@@ -1,7 +1,7 @@
 //! The measurements of a cell list's entries.
 //!
 //! Each entry has the earliest PSS detection with its identity and start, and the fraction of the energy that the PSS
-//! explains there; the total magnitude of its MIB's soft values; and, over all antenna ports, the energy of its slot's
+//! explains there; the total magnitude of its MIB's soft values, and their room (`measured.rt`); and, over all antenna ports, the energy of its slot's
 //! pilots and a noise estimate from the differences between pilots in one symbol.
 
 ghost use Rattle.std.specs.Prelude.{◌≡◌, ◌/◌, ◌*◌, ◌<◌, ◌≤◌, All, IfOk};
@@ -11,20 +11,22 @@ ghost use Rattle.explain.specs.Entries.{place_of, IsEntryFor, IsListFor};
 ghost use Rattle.explain.specs.Laws.{IsEntryOfSome};
 ghost use Rattle.explain.specs.Readings.{IsReadingFor};
 ghost use Rattle.explain.specs.Receiver.{Receiver, hits_by};
-ghost use Rattle.evidence.specs.Evidence.{shown_in as shown_in_of, IsEvidenceFor, IsInRange};
+ghost use Rattle.evidence.specs.Evidence.{shown_in as shown_in_of, IsEvidenceFor, IsMeasuredFor, IsInRange};
 ghost use Rattle.evidence.specs.Evidence.{HasFraction, numbers_by};
 
-use crate::SlotShown;
+use crate::measured::measured_and_slot;
 use crate::noise::noise_of;
 use crate::receivers::shown_in;
+use crate::{Measured, SlotShown};
 use explain::{Reading, place_in};
 use lte_types::{Carrier, Entry, Evidence, Hit};
 use pbch::total_of;
 use pss_search::signal_power;
 use sample_file::Recording;
 use std::alloc::{AllocError, Global};
+use tailbite::Trellis;
 
-/// Returns each entry's measurements, in order. `entries` is the cell list of `recording` by the receiver for
+/// Returns each entry's measurements and room, in order. `entries` is the cell list of `recording` by the receiver for
 /// `carrier`, and `readings` are the readings of its entries. Fails only if an allocation fails. (own)
 pub fn evidence_of_list(
     alloc: Global,
@@ -32,18 +34,25 @@ pub fn evidence_of_list(
     carrier: Carrier,
     entries: &[Entry],
     readings: &[Reading],
-) -> Result<Vec<Evidence>, AllocError>
+) -> Result<Vec<Measured>, AllocError>
     ghost receiver: { Receiver }
     requires carrier { carrier ≡ receiver.carrier }
     requires list { IsListFor receiver recording.now entries.now }
     requires readings { AllZip (IsReadingFor receiver recording.now) entries.now readings.now }
-    ensures each { IfOk result (λ list. AllZip (IsEvidenceFor receiver recording.now) entries.now list.items) }
-    ensures ranges { IfOk result (λ list. All IsInRange list.items) }
+    ensures each { IfOk result (λ list. AllZip (IsMeasuredFor receiver recording.now) entries.now list.items) }
+    ensures ranges { IfOk result (λ list. All (λ measured. IsInRange measured.numbers) list.items) }
 {
+    let mut work = Trellis::new(alloc)?;
     let mut list = Vec::with_capacity(alloc, entries.len())?;
     for (i, entry) in entries.iter().enumerate() {
-        let (numbers, _slot) = numbers_and_slot(recording, carrier, entry, &readings[i]);
-        list.push(numbers)?;
+        let (measured, _slot) = measured_and_slot(
+            recording,
+            carrier,
+            entry,
+            &readings[i],
+            &mut work,
+        );
+        list.push(measured)?;
     }
     Ok(list)
 }

@@ -9,20 +9,21 @@ ghost use Rattle.explain.specs.Receiver.{Receiver, hits_by};
 ghost use Rattle.evidence.specs.Blocks.{master_number, master_bits};
 ghost use Rattle.evidence.specs.Shown.{Shown, IsShownFor, with_bits, with_blocks};
 
-use crate::SlotShown;
-use crate::listing::numbers_and_slot;
+use crate::measured::measured_and_slot;
+use crate::{Measured, SlotShown};
 use cs_bits::Bits;
 use explain::Reading;
-use lte_types::{Carrier, Entry, Evidence, Mib};
+use lte_types::{Carrier, Entry, Mib};
 use sample_file::Recording;
 use std::alloc::{AllocError, Global};
 use std::marker::Model;
+use tailbite::Trellis;
 use turbo_dec::Block;
 
 /// Measurements of an entry and its slot, with the bits of its MIB and of its SIB1's transport block. (own)
 #[derive(Drop)]
 pub struct Support {
-    numbers: Evidence,
+    measured: Measured,
     slot: SlotShown,
     mib: Mib,
     block: Vec<bool>,
@@ -32,7 +33,7 @@ impl Model for Support {
     ghost Value = { Shown };
 
     ghost view = { λ s. record {
-      numbers = s.numbers;
+      measured = s.measured;
       slot = s.slot;
       master = master_bits s.mib;
       block = s.block.items;
@@ -40,11 +41,11 @@ impl Model for Support {
 }
 
 impl Support {
-    /// Returns the measurements that support the entry.
-    pub fn numbers(&self) -> &Evidence
-        ensures { result.now ≡ self.now.numbers }
+    /// Returns the measurements that support the entry, with the room of its MIB's codeword.
+    pub fn measured(&self) -> &Measured
+        ensures { result.now ≡ self.now.measured }
     {
-        &self.numbers
+        &self.measured
     }
 
     /// Returns the measurements of the entry's PBCH slot.
@@ -119,9 +120,10 @@ pub fn support_of_list(
     requires readings { AllZip (IsReadingFor receiver recording.now) entries.now readings.now }
     ensures { IfOk result (λ list. AllZip (IsShownFor receiver recording.now) entries.now list.items) }
 {
+    let mut work = Trellis::new(alloc)?;
     let mut list = Vec::with_capacity(alloc, entries.len())?;
     for (i, entry) in entries.iter().enumerate() {
-        let support = support_of(alloc, recording, carrier, entry, &readings[i])?;
+        let support = support_of(alloc, recording, carrier, entry, &readings[i], &mut work)?;
         list.push(support)?;
     }
     Ok(list)
@@ -134,6 +136,7 @@ fn support_of(
     carrier: Carrier,
     entry: &Entry,
     reading: &Reading,
+    work: &mut Trellis,
 ) -> Result<Support, AllocError>
     ghost receiver: { Receiver }
     requires carrier { carrier ≡ receiver.carrier }
@@ -143,9 +146,9 @@ fn support_of(
     ensures { IfOk result (IsShownFor receiver recording.now entry.now) }
 {
     let block = list_of(alloc, &reading.block)?;
-    let (numbers, slot) = numbers_and_slot(recording, carrier, entry, reading);
+    let (measured, slot) = measured_and_slot(recording, carrier, entry, reading, work);
     Ok(Support {
-        numbers,
+        measured,
         slot,
         mib: entry.mib,
         block,

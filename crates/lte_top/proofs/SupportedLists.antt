@@ -9,7 +9,7 @@ use Rattle.std.specs.declared.alloc.Global.{Global}
 use Rattle.cs_num.specs.declared.Sample.{Sample}
 use Rattle.lte_types.specs.declared.carrier.Carrier.{Carrier}
 use Rattle.lte_types.specs.Carrier.{carriers}
-use Rattle.evidence.specs.Evidence.{IsEvidenceFor}
+use Rattle.evidence.specs.Evidence.{IsMeasuredFor}
 use Rattle.evidence.specs.Receivers.{receiver_of}
 use Rattle.evidence.specs.Shown.{IsShownFor, with_blocks}
 use Rattle.evidence.proofs.Only.{one_for_each, one_shown_for_each}
@@ -37,8 +37,8 @@ use Rattle.lte_top.proofs.OneList.{by_scheme, one_line, one_list}
 one_evidence_text : (carrier : Carrier) (samples : List Sample) (first second : List ℕ) → IsEvidenceText carrier samples first → IsEvidenceText carrier samples second → first ≡ second
 one_evidence_text carrier samples first second a b =
     let same = one_list carrier samples a.entries b.entries a.is_list b.is_list in
-    let numbers = one_for_each (receiver_of carrier) samples b.entries a.numbers b.numbers (subst (λ entries. AllZip (IsEvidenceFor (receiver_of carrier) samples) entries a.numbers) same a.each) b.each in
-    a.text_is ∙ ap evidence_text numbers ∙ sym b.text_is
+    let measured = one_for_each (receiver_of carrier) samples b.entries a.measured b.measured (subst (λ entries. AllZip (IsMeasuredFor (receiver_of carrier) samples) entries a.measured) same a.each) b.each in
+    a.text_is ∙ ap evidence_text measured ∙ sym b.text_is
 
 same_supported : (a b : Supported) → a.entries ≡ b.entries → a.shown ≡ b.shown → a ≡ b
 same_supported a b entries shown i = record { entries = entries i; shown = shown i }

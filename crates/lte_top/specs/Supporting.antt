@@ -4,8 +4,8 @@ use Rattle.std.specs.List.{AllZip}
 use Rattle.cs_num.specs.declared.Sample.{Sample}
 use Rattle.lte_types.specs.declared.entry.Entry.{Entry}
 use Rattle.lte_types.specs.declared.carrier.Carrier.{Carrier}
-use Rattle.lte_types.specs.declared.evidence.Evidence.{Evidence as Numbers}
-use Rattle.evidence.specs.Evidence.{IsEvidenceFor}
+use Rattle.evidence.specs.declared.measured.Measured.{Measured}
+use Rattle.evidence.specs.Evidence.{IsMeasuredFor}
 use Rattle.evidence.specs.Receivers.{receiver_of}
 use Rattle.evidence.specs.Shown.{IsShownFor, with_blocks}
 use Rattle.halving.specs.Wide.{Wide, narrowed}
@@ -28,9 +28,9 @@ use Rattle.lte_top.specs.declared.reading.Signal.{Signal}
 pub record IsEvidenceText (carrier : Carrier) (samples : List Sample) (text : List ℕ) : Type 0 where
   pub entries : List Entry
   pub is_list : IsListOf carrier samples entries
-  pub numbers : List Numbers
-  pub each : AllZip (IsEvidenceFor (receiver_of carrier) samples) entries numbers
-  pub text_is : text ≡ evidence_text numbers
+  pub measured : List Measured
+  pub each : AllZip (IsMeasuredFor (receiver_of carrier) samples) entries measured
+  pub text_is : text ≡ evidence_text measured
 
 -- `list` is the cell list for a transmission scheme, with the measurements of each cell and its slot, and the bits in
 -- the cell's blocks

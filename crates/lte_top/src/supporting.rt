@@ -76,8 +76,8 @@ fn evidence_text(
 {
     let mut list = EntryList::new(alloc)?;
     read_list_by(recording, carrier, hits, work, &mut list);
-    let numbers = evidence_of_list(alloc, recording, carrier, list.slice(), work.readings())?;
-    text_of_evidence(alloc, &numbers)
+    let measured = evidence_of_list(alloc, recording, carrier, list.slice(), work.readings())?;
+    text_of_evidence(alloc, &measured)
 }
 
 // Returns the evidence for each listed cell as JSON.

@@ -102,14 +102,15 @@ in_bits (bit ∷ bits) = refl
 pub in_support : (shown : Shown) → has_float (support_value shown) ≡ false
 in_support shown =
     or_from _ _ (in_list port_value in_port shown.slot.channel)
-    (or_from _ _ (in_bits shown.block) (or_from _ _ (in_pairs shown.slot.values) refl))
+    (or_from _ _ (in_integer shown.measured.room) (or_from _ _ (in_bits shown.block) (or_from _ _ (in_pairs shown.slot.values) refl)))
 
 pub in_cell : (cell : SupportedCell) → has_float (cell_value cell) ≡ false
 in_cell cell =
     let shown = cell.support.now in
     or_from _ _ (in_list port_value in_port shown.slot.channel)
+    (or_from _ _ (in_integer shown.measured.room)
     (or_from _ _ (in_system cell.entry.now.sib1)
-    (or_from _ _ (in_bits shown.block) (or_from _ _ (in_pairs shown.slot.values) refl)))
+    (or_from _ _ (in_bits shown.block) (or_from _ _ (in_pairs shown.slot.values) refl))))
 
 in_choice : (choice : Choice) → has_float (choice_value choice) ≡ false
 in_choice choice = or_from _ _ (in_integer choice.score) refl

@@ -6,6 +6,7 @@ use Rattle.serde_json.specs.Data.{Data, null, string, object, Members, no_member
 use Rattle.serde_json.specs.Written.{compact_text}
 use Rattle.cs_num.specs.declared.Cpx.{Cpx}
 use Rattle.soft_bits.specs.Kept.{SeenLine}
+use Rattle.evidence.specs.declared.measured.Measured.{Measured}
 use Rattle.evidence.specs.Evidence.{SlotShown}
 use Rattle.evidence.specs.Shown.{Shown}
 use Rattle.report_json.specs.Values.{integer, list_of, put_each}
@@ -45,14 +46,19 @@ block_members master block members =
 
 -- ---- an entry
 
+-- `members`, with the numbers that support an entry and its room added
+abbrev pub measured_members : Measured → Members → Members
+measured_members measured members =
+    put (codes "room") (integer measured.room) (put_each (numbers_in measured.numbers) members)
+
 -- `members`, with the numbers that support an entry, its slot, and the bits in its blocks added
 abbrev pub shown_members : Shown → Members → Members
 shown_members shown members =
-    block_members shown.master shown.block (slot_members shown.slot (put_each (numbers_in shown.numbers) members))
+    block_members shown.master shown.block (slot_members shown.slot (measured_members shown.measured members))
 
 -- the object for a list entry: the numbers that identify the entry, and what supports it
 abbrev pub support_value : Shown → Data
-support_value shown = object (shown_members shown (put_each (place_in shown.numbers) no_members))
+support_value shown = object (shown_members shown (put_each (place_in shown.measured.numbers) no_members))
 
 -- the JSON of a cell list's evidence, without spaces
 unfoldable pub evidence_json : List Shown → List ℕ

@@ -1,6 +1,7 @@
 //! A cell list's evidence as JSON: an array with one object for each entry. The keys of an object, in byte order, are:
 //!
 //! - the names in `place_in` and `numbers_in`;
+//! - `room`: the room of its MIB's codeword;
 //! - `channel` and `values`: the pilots and the soft values of the entry's slot;
 //! - `mib` and `sib1_block`: the bits in its blocks.
 
@@ -9,12 +10,12 @@ ghost use Rattle.serde_json.specs.View.{view, members_view};
 ghost use Rattle.report_json.specs.Values.{integer, list_of};
 ghost use Rattle.report_json.specs.Evidence.{slot_members, complex_value, port_value};
 ghost use Rattle.report_json.specs.Evidence.{block_members, bits_value as bits_value_of};
-ghost use Rattle.report_json.specs.Evidence.{shown_members, support_value, evidence_json};
+ghost use Rattle.report_json.specs.Evidence.{measured_members, shown_members, support_value, evidence_json};
 
 use crate::named::put_numbers;
 use crate::values::{ToJson, list_text, list_value, pair_value};
 use cs_num::Cpx;
-use evidence::{SlotShown, Support};
+use evidence::{Measured, SlotShown, Support};
 use report_parts::{hex_word, numbers_in, place_in};
 use serde_json::{Map, Value, put};
 use soft_bits::Pilots;
@@ -33,13 +34,13 @@ impl ToJson for Support {
 
     fn to_json(&self, alloc: Global) -> Result<Value, AllocError> {
         let mut members = Map::new(alloc);
-        put_numbers(alloc, &place_in(self.numbers()), &mut members)?;
+        put_numbers(alloc, &place_in(&self.measured().numbers), &mut members)?;
         put_shown(alloc, self, &mut members)?;
         Ok(Value::from(members))
     }
 }
 
-/// Adds the numbers that support an entry, its slot, and the bits in its blocks.
+/// Adds the numbers that support an entry, its room, its slot, and the bits in its blocks.
 pub(crate) fn put_shown(
     alloc: Global,
     support: &Support,
@@ -48,9 +49,22 @@ pub(crate) fn put_shown(
     ensures { OnOk result (members_view members.new.entries
         ≡ shown_members support.now (members_view members.old.entries)) }
 {
-    put_numbers(alloc, &numbers_in(support.numbers()), members)?;
+    put_measured(alloc, support.measured(), members)?;
     put_slot(alloc, support.slot(), members)?;
     put_blocks(alloc, support.master().slice(), support.block(), members)
+}
+
+// Adds the numbers that support an entry, and its room.
+fn put_measured(
+    alloc: Global,
+    measured: &Measured,
+    members: &mut Map<String, Value>,
+) -> Result<(), AllocError>
+    ensures { OnOk result (members_view members.new.entries
+        ≡ measured_members measured.now (members_view members.old.entries)) }
+{
+    put_numbers(alloc, &numbers_in(&measured.numbers), members)?;
+    put(members, alloc, "room", Value::from(measured.room))
 }
 
 // The array with the real and the imaginary part.

@@ -2,16 +2,17 @@
 
 ghost use Rattle.std.specs.Prelude.{◌≡◌, ℕ, List, IfOk, string_bytes};
 ghost use Rattle.report_text.specs.Evidence.{evidence_text, evidence_line, entry_part as entry_of, number_part};
+ghost use Rattle.report_text.specs.Evidence.{room_part as room_of};
 
 use crate::each::{ToLines, add_lines};
-use lte_types::Evidence;
+use evidence::Measured;
 use report_parts::{Named, numbers_in};
 use std::alloc::{AllocError, Global};
 use std::fmt::Write;
 
 /// Returns the text of a cell list's evidence: a line with the number of entries, then a line for each with its
-/// identity, frame start, frame number and `numbers_in`. Fails only if an allocation fails. (own)
-pub fn text_of_evidence(alloc: Global, list: &[Evidence]) -> Result<String, AllocError>
+/// identity, frame start, frame number, `numbers_in` and room. Fails only if an allocation fails. (own)
+pub fn text_of_evidence(alloc: Global, list: &[Measured]) -> Result<String, AllocError>
     ensures { IfOk result (λ text. string_bytes text ≡ evidence_text list.now) }
 {
     let mut text = format!(in alloc; "evidence {}\n", list.len())?;
@@ -20,12 +21,14 @@ pub fn text_of_evidence(alloc: Global, list: &[Evidence]) -> Result<String, Allo
 }
 
 // The evidence line of a list entry.
-impl ToLines for Evidence {
+impl ToLines for Measured {
     ghost lines_of = { evidence_line };
 
     fn to_lines(&self, alloc: Global) -> Result<String, AllocError> {
-        let mut line = entry_part(alloc, self.id.value(), self.start, self.sfn.value())?;
-        add_lines(alloc, &numbers_in(self), &mut line)?;
+        let numbers = &self.numbers;
+        let mut line = entry_part(alloc, numbers.id.value(), numbers.start, numbers.sfn.value())?;
+        add_lines(alloc, &numbers_in(numbers), &mut line)?;
+        line.push_str(&room_part(alloc, self.room)?)?;
         line.push_str("\n")?;
         Ok(line)
     }
@@ -44,6 +47,13 @@ fn after_name(alloc: Global, name: &str, value: u64) -> Result<String, AllocErro
     ensures { IfOk result (λ part. string_bytes part ≡ number_part (name.now, value)) }
 {
     format!(in alloc; " {name} {value}")
+}
+
+// Returns the part with the room.
+fn room_part(alloc: Global, room: i64) -> Result<String, AllocError>
+    ensures { IfOk result (λ part. string_bytes part ≡ room_of room) }
+{
+    format!(in alloc; " room {room}")
 }
 
 // Returns the part with the cell identity, frame start and frame number.

@@ -10,7 +10,7 @@ use std::test::Fail;
 // The evidence for the lists of the plain cell's recording.
 const OF_PLAIN: &str = "rule one-port
 evidence 1
-0 0 0 t 832 peak 1000 cost 0 total 32162 frames 1 frame 0 phase 0 power 1590713504 noise 6886
+0 0 0 t 832 peak 1000 cost 0 total 32162 frames 1 frame 0 phase 0 power 1590713504 noise 6886 room 4018
 rule two-ports
 evidence 0
 rule long-prefix
@@ -23,14 +23,14 @@ evidence 0
 // too.
 const OF_FOUR_PORTS: &str = "rule one-port
 evidence 1
-90 19110 91 t 742 peak 999 cost 3040 total 24017 frames 1 frame 0 phase 3 power 39787152048 noise 230723
+90 19110 91 t 742 peak 999 cost 3040 total 24017 frames 1 frame 0 phase 3 power 39787152048 noise 230723 room -2879
 rule two-ports
 evidence 0
 rule long-prefix
 evidence 0
 rule four-ports
 evidence 1
-90 19110 91 t 742 peak 999 cost 0 total 32180 frames 1 frame 0 phase 3 power 112936696441 noise 1156722
+90 19110 91 t 742 peak 999 cost 0 total 32180 frames 1 frame 0 phase 3 power 112936696441 noise 1156722 room 3838
 ";
 
 #[test]
@@ -76,7 +76,7 @@ const AS_JSON: &str = "\
 [1030950,-2970],[1033920,10800],[1040310,-2970],[1036620,-1800],[1041840,2340],[1042380,6660],[1045710,-1350],\
 [1041840,-8280],[1038060,17280],[1027350,-4230],[1032210,9810],[1030320,720],[1037070,1350]]],\"cost\":3488,\
 \"duration\":\"normal\",\"frame\":5,\"frames\":1,\"identity\":90,\"mib\":\"08605a\",\"noise\":99652,\"peak\":999,\
-\"phase\":0,\"ports\":2,\"power\":1588598771,\"resource\":\"one\",\"rule\":\"one-port\",\"sfn\":91,\
+\"phase\":0,\"ports\":2,\"power\":1588598771,\"resource\":\"one\",\"room\":-2895,\"rule\":\"one-port\",\"sfn\":91,\
 \"sib1\":{\"none\":\"ports 2\"},\"sib1_block\":null,\"spare\":26,\"t\":742,\"total\":23069,\"values\":[[65,-127],[127,\
 -67],[-127,65],[-127,-67],[127,67],[-127,67],[66,-127],[127,-67],[127,67],[-66,-127],[66,-127],[-69,-127],[-127,68],\
 [65,-127],[-127,-65],[68,127],[-68,-127],[-127,-67],[-127,70],[-127,-66],[-69,-127],[-67,127],[65,-127],[127,-69],[68,\
@@ -108,7 +108,7 @@ const AS_JSON: &str = "\
 [2065950,-2076030],[2072520,-2073240],[2081250,-2078910],[2087190,-2077290],[2073060,-2076660],[2075940,-2076480],\
 [2051820,-2079360],[2063340,-2075580]]],\"cost\":0,\"duration\":\"normal\",\"frame\":0,\"frames\":1,\"identity\":90,\
 \"mib\":\"08585a\",\"noise\":130497,\"peak\":999,\"phase\":3,\"ports\":2,\"power\":14334247838,\"resource\":\"one\",\
-\"rule\":\"two-ports\",\"sfn\":91,\"sib1\":{\"band\":27,\"barred\":false,\"cell\":90,\"csg\":false,\
+\"room\":4005,\"rule\":\"two-ports\",\"sfn\":91,\"sib1\":{\"band\":27,\"barred\":false,\"cell\":90,\"csg\":false,\
 \"csg_identity\":null,\"extension\":false,\"intra\":true,\"p_max\":null,\"plmns\":[{\"mcc\":\"001\",\"mnc\":\"01\",\
 \"reserved\":false}],\"q_offset\":null,\"q_rx\":-29,\"scheduling\":[{\"period\":512,\"sibs\":[]},{\"period\":512,\
 \"sibs\":[0,2]}],\"tac\":90,\"tag\":26,\"tdd\":null,\"window\":40},\

@@ -12,19 +12,19 @@ use std::test::Fail;
 use test_support::{add_errors, oppose};
 
 const OF_PLAIN: &str = "evidence 1
-0 0 0 t 832 peak 1000 cost 0 total 32162 frames 1 frame 0 phase 0 power 1590713504 noise 6886
+0 0 0 t 832 peak 1000 cost 0 total 32162 frames 1 frame 0 phase 0 power 1590713504 noise 6886 room 4018
 ";
 
 const OF_A_CELL_AND_CHANCE: &str = "evidence 2
-46 0 0 t 832 peak 1000 cost 0 total 32157 frames 1 frame 0 phase 0 power 1592012801 noise 5446
-46 0 267 t 832 peak 1000 cost 1474 total 12061 frames 1 frame 0 phase 3 power 1592012801 noise 5446
+46 0 0 t 832 peak 1000 cost 0 total 32157 frames 1 frame 0 phase 0 power 1592012801 noise 5446 room 4017
+46 0 267 t 832 peak 1000 cost 1474 total 12061 frames 1 frame 0 phase 3 power 1592012801 noise 5446 room -1474
 ";
 
 const OF_EARLY: &str =
-    "t 833 peak 999 cost 0 total 32161 frames 1 frame 0 phase 2 power 1248302040323 noise 2804544";
+    "t 833 peak 999 cost 0 total 32161 frames 1 frame 0 phase 2 power 1248302040323 noise 2804544 room 4018";
 
 const OF_TURNED: &str =
-    "t 832 peak 999 cost 0 total 32558 frames 1 frame 0 phase 0 power 1140024279413 noise 186309067";
+    "t 832 peak 999 cost 0 total 32558 frames 1 frame 0 phase 0 power 1140024279413 noise 186309067 room 4004";
 
 #[test]
 fn evidence_of_a_plain_cell(rt: HostRuntime) -> Result<(), Fail> {
@@ -75,7 +75,7 @@ const AS_JSON: &str = "\
 [1035990,-810],[1038150,810],[1036980,0],[1035270,2430],[1037520,-1080],[1036620,1800],[1037700,-1440],\
 [1036710,-3870],[1033740,2520],[1034370,270],[1037520,900],[1034370,2250],[1036800,1980],[1036710,-90],\
 [1036440,1260],[1035090,-810],[1036170,2070],[1035990,-1350]]],\"cost\":0,\"frame\":0,\"frames\":1,\"identity\":0,\
-\"mib\":\"080000\",\"noise\":6886,\"peak\":1000,\"phase\":0,\"power\":1590713504,\"sfn\":0,\
+\"mib\":\"080000\",\"noise\":6886,\"peak\":1000,\"phase\":0,\"power\":1590713504,\"room\":4018,\"sfn\":0,\
 \"sib1_block\":\"404004030001000000180000000000\",\"t\":832,\"total\":32162,\"values\":\
 [[-67,67],[67,-67],[67,67],[-67,67],[-67,-67],[67,67],[-67,67],[67,67],[-67,67],[-67,-67],[67,-67],[-67,-67],\
 [67,-67],[-67,-67],[-67,67],[67,67],[67,-67],[-67,67],[67,-67],[-67,67],[-67,-67],[67,67],[67,-67],[67,-67],[67,67],\
@@ -111,13 +111,13 @@ fn a_plain_cell_has_no_evidence_by_another_rule(rt: HostRuntime) -> Result<(), F
 
 // The evidence numbers of synthetic recording 90 under other transmission schemes.
 const OF_TWO_PORTS: &str =
-    "t 742 peak 999 cost 0 total 32160 frames 1 frame 0 phase 3 power 14334247838 noise 130497";
+    "t 742 peak 999 cost 0 total 32160 frames 1 frame 0 phase 3 power 14334247838 noise 130497 room 4005";
 
 const OF_FOUR_PORTS: &str =
-    "t 742 peak 999 cost 0 total 32180 frames 1 frame 0 phase 3 power 112936696441 noise 1156722";
+    "t 742 peak 999 cost 0 total 32180 frames 1 frame 0 phase 3 power 112936696441 noise 1156722 room 3838";
 
 const OF_LONG_PREFIX: &str =
-    "t 742 peak 999 cost 0 total 28910 frames 1 frame 0 phase 3 power 517982821499 noise 46795055";
+    "t 742 peak 999 cost 0 total 28910 frames 1 frame 0 phase 3 power 517982821499 noise 46795055 room 2988";
 
 const TWO_PORTS_CHANNEL: &str = "\
 \"channel\":[[[1044360,1440],[1023750,2970],[1040220,-3960],[1040850,7830],[1040490,-4770],[1040490,4410],[1046340,\

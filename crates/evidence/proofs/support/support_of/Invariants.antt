@@ -1,4 +1,4 @@
 use Rattle.evidence.proofs.support.support_of.Given as goal
 
-abbrev pub ghost-numbers_and_slot : goal.ghost-numbers_and_slot
-ghost-numbers_and_slot g a = g.receiver
+abbrev pub ghost-measured_and_slot : goal.ghost-measured_and_slot
+ghost-measured_and_slot g a = g.receiver
