@@ -1,5 +1,6 @@
-//! Tests of the channel codes and of the receiver's single stages: `conv_code`, `tailbite`, `tail_cert`, `turbo_code`,
-//! `turbo_dec`, `erasure`, `dci`, `sib1`, `grid_map`, `soft_bits`, `sss_detect` and `pss_search`.
+//! Tests of the channel codes and of the receiver's single stages: `conv_code`, `tailbite`, `code_distance`,
+//! `tail_cert`, `turbo_code`, `turbo_dec`, `erasure`, `dci`, `sib1`, `grid_map`, `soft_bits`, `sss_detect` and
+//! `pss_search`.
 #![tactic(auto)]
 
 #[cfg(test)]
@@ -30,3 +31,5 @@ mod sweeps;
 mod turbo_coding;
 #[cfg(test)]
 mod turbo_decoding;
+#[cfg(test)]
+mod word_rooms;
