@@ -430,6 +430,10 @@ def numpy_looks():
             "$PY -m lte_reference.search < ../crates/capture_example/stdin",
             lines_together,
         ),
+        *(
+            Look("docs/TUTORIAL.md", f"$PY -m lte_reference.{words} < ../crates/capture_example/stdin", lines_together)
+            for words in ("why 271", "why 270", "why 1", "evidence")
+        ),
         Look(
             "docs/TUTORIAL.md",
             "$PY -m lte_reference.wide_sender --identity 301 --width 50 --ports 2 --snr 15 --frames 20"
