@@ -134,8 +134,9 @@ def options_of(kind: type[T], args: argparse.Namespace) -> T:
 
 
 def add_file_arguments(parser: argparse.ArgumentParser, **keys: Any) -> None:
-    """Adds what a tool asks of a file; `keys` say how many there may be."""
-    parser.add_argument("file", metavar="FILE", type=pathlib.Path, **keys)
+    """Adds what a tool asks of a file; `keys` are those of its argument."""
+    found: dict[str, Any] = {"metavar": "FILE", "type": pathlib.Path, **keys}
+    parser.add_argument("file", **found)
     parser.add_argument("--form", choices=FORMS, help="by the file's name where it is left out, else s16")
     parser.add_argument("--rate", type=rate, help="samples per second; of SigMF and WAV what they say, else 1.92e6")
     parser.add_argument("--shift", type=number, help="hertz above the file's centre at which the cell stands (0)")
