@@ -17,7 +17,8 @@ import subprocess
 import tarfile
 from typing import Any, Iterator, NamedTuple, Sequence
 
-from . import check_certificate, compare_forms, compare_lists, compare_outputs, compare_verdicts, foreign, machine
+from . import check_certificate, compare_forms, compare_lists, compare_outputs, compare_tables, compare_verdicts
+from . import foreign, machine
 from .compare_verdicts import Comparison
 from .machine import ProgramRefused, Refused
 from .rules import RULES, Rule
@@ -33,16 +34,16 @@ TEXT = """A comparison of two lists of LTE cells, by lte_compare.
 
 ours.json          our survey of {ours}
 theirs             the other receiver's list, as it was
-comparison.json    the verdicts of ours.json and theirs (lte_compare ours.json theirs --json)
+comparison.json    the verdicts of ours.json and theirs (lte_compare ours.json theirs --json, with the options of bundle.json)
 reasons.json       the same verdicts, with the reasons for cells that only theirs has
 windows/N.ci16     windows of the recording: 16-bit I and Q at 1.92 million samples per second
 windows/N.*.json   what lte_cli reports of a window: evidence --all, ids, and why for each cell that differs there
 windows/N.*.cert   certificates of its cells (lte_cli certify)
 bundle.json        versions, options, and the SHA-256 of each file
-verify          runs lte_cli on each window again, and compares
+verify             runs lte_cli on each window again, and compares
 
     lte_compare --verify THIS.tar    runs everything again, and checks certificates with a second checker
-    sh verify                     in a folder with these files: compares what lte_cli reports
+    sh verify                        in a folder with these files: compares what lte_cli reports
 
 Made with: {version}
 SIB1 of cells with more than 6 resource blocks is not in the answers about a window, since the window has 1.92 million
@@ -152,7 +153,10 @@ def verify(path: pathlib.Path) -> list[str]:
     data = foreign.read(path, MOST_BYTES)
     files = read(data, str(path))
     head = head_of(files, str(path))
-    return list(faults_of(files, head, data))
+    try:
+        return list(faults_of(files, head, data))
+    except Refused as refusal:
+        raise Refused(f"{path}: {refusal}") from None
 
 
 def read(data: bytes, name: str) -> dict[str, bytes]:
@@ -176,6 +180,9 @@ def head_of(files: dict[str, bytes], name: str) -> dict[str, Any]:
         raise Refused(f"{name}: no {HEAD} in it: not a bundle of lte_compare")
     head: dict[str, Any] = foreign.parsed(files[HEAD], f"{name}: {HEAD}")
     foreign.check(head, "bundle", f"{name}: {HEAD}")
+    columns = head["options"]["columns"]
+    if not all(column in compare_tables.HEADINGS and isinstance(heading, str) for column, heading in columns.items()):
+        raise Refused(f"{name}: {HEAD}: columns that --columns does not have")
     return head
 
 
@@ -217,8 +224,12 @@ def window_faults(name: str, files: dict[str, bytes], identities: Sequence[int])
             continue
         if found != files[f"{name}.{ending}"]:
             yield f"{name}.{ending}: lte_cli {' '.join(arguments)} reports something else now"
-    lines = foreign.parsed(files[f"{name}.evidence.json"], f"{name}.evidence.json")
-    foreign.check(lines, "evidence_all", f"{name}.evidence.json")
+    try:
+        lines = foreign.parsed(files[f"{name}.evidence.json"], f"{name}.evidence.json")
+        foreign.check(lines, "evidence_all", f"{name}.evidence.json")
+    except Refused as refusal:
+        yield str(refusal)
+        return
     for rule in RULES:
         blocks = [line["mib"] for line in lines if line["rule"] == rule.name]
         yield from certificate_faults(f"{name}.{rule.name}.cert", files[f"{name}.{rule.name}.cert"], blocks, rule)

@@ -8,6 +8,7 @@ import os
 import random
 import re
 import shutil
+import struct
 import subprocess
 
 import numpy as np
@@ -17,7 +18,7 @@ from lte_tools import compare_bundle, compare_forms, compare_lists, compare_verd
 from lte_tools import survey_page, survey_table, survey_windows
 from lte_tools.survey_data import Detected, Scan, Survey, SurveyIdentity, Track
 from tests import stand_in
-from tests.conftest import EXAMPLES, is_one_line
+from tests.conftest import EXAMPLES, is_one_line, needs
 from tests.stand_in import EARFCN, FAULTS, FORMS
 
 CASES = [(name, fault) for name in FORMS for fault in FAULTS if stand_in.carries(name, fault)]
@@ -178,6 +179,31 @@ def test_eight_bits_of_a_frame_number(ours):
     rows[3] = rows[3][: rows[3].rindex(",")] + ",20"  # 77 // 4 is 19
     found = compared(ours, "\n".join(rows).encode())
     assert differences(found) == [("differ", "sfn", 64)] and "compared modulo 4" in " ".join(found.notes)
+
+
+@needs("tshark", "editcap")
+def test_identity_of_a_capture_is_in_a_comment_or_not_known(ours, tmp_path):
+    """A phone's packets have another address than those of lte_pcap."""
+    data = stand_in.capture(stand_in.truth())
+    for one in stand_in.truth():
+        data = data.replace(bytes((127, 0, *divmod(one["identity"], 100))), bytes((10, 0, 0, 2)))
+    found = compared(ours, data)
+    assert differences(found) == [] and "identity" not in found.fields and {"tac", "cell", "band"} <= set(found.fields)
+    (tmp_path / "a.pcap").write_bytes(data)
+    words = ["-a", "7:PCI: 272 of the serving cell"]  # the first packet with a SIB1 of PCI 271
+    subprocess.run(["editcap", *words, tmp_path / "a.pcap", tmp_path / "b.pcapng"], check=True)
+    found = compared(ours, (tmp_path / "b.pcapng").read_bytes())
+    assert differences(found) == [("differ", "identity", 271)]
+
+
+@needs("tshark")
+def test_capture_of_a_user_link_type_has_sib1(ours):
+    """Packets of DLT_USER0 (147) that are SIB1 alone."""
+    blocks = [bytes.fromhex(stand_in.blocks_of(one)[1]) for one in stand_in.truth()]
+    packets = [struct.pack("<IIII", 0, 0, len(block), len(block)) + block for block in blocks]
+    found = compared(ours, b"".join([struct.pack("<IHHiIII", 0xA1B2C3D4, 2, 4, 0, 0, 65_535, 147), *packets]))
+    assert [one.verdict for one in found.verdicts] == ["agree"] * 5
+    assert {"plmn", "tac", "cell", "band"} == set(found.fields) - {"level"}
 
 
 # ---- our own forms
