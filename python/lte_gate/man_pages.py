@@ -79,8 +79,8 @@ STATUSES = {
 }
 OWN_STATUSES = {
     "lte_compare": {
-        "0": "the lists agree",
-        "1": "the lists differ",
+        "0": "the lists agree, or a bundle holds",
+        "1": "the lists differ, or a bundle does not hold",
         "2": "there is no result; a line on standard error says why",
     }
 }

@@ -21,7 +21,7 @@ FRAMES = 1024  # frame numbers (TS 36.331 section 6.2.2, MIB and its two bits by
 GROUPS, MEMBERS = 168, 3  # identity groups, and identities in a group (TS 36.211 section 6.11)
 WIDTHS = {1.4: 6, 3: 15, 5: 25, 10: 50, 15: 75, 20: 100}  # MHz and resource blocks (TS 36.101 table 5.6-1)
 SINCE_1970 = 1e8  # seconds above which a time is no second of a recording
-MOST_CELLS = 100_000  # lines of a list
+MOST_CELLS = 500_000  # lines of a list
 MEDIAN, STRONGEST, PRIMARY = "median", "strongest", "pss"  # what a list's level is
 # the values of Ng (TS 36.331 section 6.2.2) and their other names
 RESOURCES = {

@@ -13,7 +13,8 @@ import numpy as np
 from . import compare_lists, programs, radio, radio_file
 from .answers import Deep, Identity
 from .compare_lists import EXTENDED, FRAME, MEMBERS, CellList, Listed
-from .compare_verdicts import PREFIXES, SAMPLE, Comparison, Verdict
+from .compare_bundle import MOST_WINDOWS, Part
+from .compare_verdicts import DIFFERENCES, PREFIXES, SAMPLE, Comparison, Verdict
 from .options import SurveyOptions
 from .radio_file import Spoiled
 from .reasons import ORDER, NoMib, Why
@@ -54,6 +55,7 @@ class Asker:
 
     def __init__(self, given: SurveyOptions, survey: Survey) -> None:
         self.tasks = tasks_of(given, survey)
+        self.best: dict[tuple[str, ...], float] = {}  # the window of each reason, by the cell's places
         self.known: dict[float, tuple[programs.Recording, tuple[Identity, ...], Deep] | None] = {}
 
     def window(self, task: Task) -> tuple[programs.Recording, tuple[Identity, ...], Deep] | None:
@@ -117,15 +119,42 @@ def rank(why: Why) -> tuple[int, float]:
     return ORDER.index(furthest.rule), 0.0 if share is None else -share
 
 
+# ---- windows for a bundle
+
+
+def parts_of(found: Comparison, ours: CellList, asker: Asker) -> list[Part]:
+    """Returns the windows that the differences need, those of most differences first, MOST_WINDOWS at most."""
+    wanted: dict[float, set[int]] = {}
+    for one in found.verdicts:
+        start = start_of(one, ours, asker) if one.verdict in DIFFERENCES else None
+        if start is not None:
+            named = {one.identity, int(one.theirs) if one.field == "identity" and one.theirs else None}
+            wanted.setdefault(start, set()).update(identity for identity in named if identity is not None)
+    order = sorted(wanted, key=lambda start: (-len(wanted[start]), start))[:MOST_WINDOWS]
+    by_start = {task.start: task for task in asker.tasks}
+    return [Part(start, window_of(by_start[start]).data, tuple(sorted(wanted[start]))) for start in sorted(order)]
+
+
+def start_of(verdict: Verdict, ours: CellList, asker: Asker) -> float | None:
+    """Returns where the window of a difference begins: that of its reason, or that in which our cell is strongest."""
+    if verdict.places[:1] in asker.best:
+        return asker.best[verdict.places[:1]]
+    same = [one for one in ours.cells if (one.identity, one.cell) == (verdict.identity, verdict.cell)]
+    seen = [level for one in same for level in one.levels if level.seconds is not None]
+    if not seen or not asker.tasks:
+        return None
+    strongest = max(seen, key=lambda level: level.decibels).seconds or 0.0
+    before = [task.start for task in asker.tasks if task.start <= strongest]
+    return max(before, default=asker.tasks[0].start)
+
+
 # ---- sentences
 
 
-def with_reasons(found: Comparison, theirs: CellList, given: SurveyOptions, survey: Survey) -> Comparison:
+def with_reasons(found: Comparison, theirs: CellList, asker: Asker, survey: Survey) -> Comparison:
     """Returns a comparison in which each cell that only their list has states why ours does not have it."""
     only = [one for one in found.verdicts if one.verdict == "theirs-only"]
-    if not only or given.scan:
-        return found
-    asker, by_place = Asker(given, survey), {one.places[:1]: one for one in theirs.cells}
+    by_place = {one.places[:1]: one for one in theirs.cells}
     reasoned = {id(one): reasoned_of(one, by_place[one.places[:1]], asker, survey) for one in only[:MOST]}
     notes = found.notes
     if len(only) > MOST:
@@ -145,6 +174,7 @@ def reasoned_of(verdict: Verdict, theirs: Listed, asker: Asker, survey: Survey) 
     if not asked:
         return verdict
     best = max(asked, key=lambda one: (is_deep(one, theirs), rank(one.why)))
+    asker.best[verdict.places[:1]] = best.start
     case = BELOW if is_heard(best, theirs) else NOTHING
     parts = [f"{'heard below our rule' if case == BELOW else 'nothing there'} at {best.start:.2f} s"]
     parts += [deep_text(best, theirs), best.why.furthest.text, chance_text(best, theirs), place_text(best, theirs)]

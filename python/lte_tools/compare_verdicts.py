@@ -7,17 +7,19 @@ whole list, which is stated once.
 """
 from __future__ import annotations
 
+import bisect
 import dataclasses
 import statistics
 from collections import Counter
 from dataclasses import dataclass
-from typing import Any, Callable, Iterable, NamedTuple, Sequence
+from typing import Any, Callable, Iterable, NamedTuple, Sequence, TypeVar
 
 from . import bands, compare_lists
 from .answers import Answer
-from .compare_lists import EXTENDED, FRAME, FRAMES, GROUPS, MEMBERS, PRIMARY, STRONGEST, CellList, Listed
+from .compare_lists import EXTENDED, FRAME, FRAMES, GROUPS, MEMBERS, PRIMARY, STRONGEST, CellList, Frame, Level, Listed
 from .survey_data import SurveyCell
 
+T = TypeVar("T", Frame, Level)
 TOLERANCE = 2.0  # dB by which a level may differ from the list's constant (own)
 # seconds of the cyclic prefix in the symbols after a slot's first (TS 36.211 section 6.12), and a sample at 1.92 MHz
 PREFIXES = {False: 144 / 30.72e6, True: 512 / 30.72e6}
@@ -255,7 +257,7 @@ def difference_of_numbers(ours: Listed, theirs: Listed) -> tuple[int, bool] | No
     found = []
     for one in theirs.frames:
         seconds = one.seconds
-        nearest = min(ours.frames, key=lambda own: abs((own.seconds or 0) - (seconds or 0)))
+        nearest = nearest_of(ours.frames, seconds or 0.0)
         steps = ((seconds or 0) - (nearest.seconds or 0)) / FRAME
         expected = nearest.number + (round(steps) if seconds is not None else -int((nearest.seconds or 0) / FRAME))
         more = 4 * (one.number - expected % FRAMES // 4) if one.is_coarse else one.number - expected
@@ -275,16 +277,21 @@ def constant_number(pairs: Sequence[Pair]) -> int | None:
     return 0 if all(is_timed for _, is_timed in found) or any(one == 0 for one, _ in found) else None
 
 
+def nearest_of(timed: Sequence[T], seconds: float) -> T:
+    """Returns the item whose second is nearest; items are in the order of time."""
+    place = bisect.bisect_left(timed, seconds, key=lambda one: one.seconds or 0.0)
+    return min(timed[max(place - 1, 0) : place + 1], key=lambda one: abs((one.seconds or 0.0) - seconds))
+
+
 def differences_of_levels(ours: Listed, theirs: Listed, begin: float | None) -> list[float]:
     """Returns the levels of theirs relative to ours in dB: by their times, else medians, or maxima where theirs has these."""
-    found = []
+    found, known = [], [own for own in ours.levels if own.seconds is not None]
     for one in theirs.levels if theirs.kind != STRONGEST else ():
         seconds = one.seconds
         if seconds is not None and seconds > compare_lists.SINCE_1970:
             seconds = None if begin is None else seconds - begin
-        known = [own for own in ours.levels if own.seconds is not None]
         if seconds is not None and known:
-            nearest = min(known, key=lambda own: abs((own.seconds or 0) - (seconds or 0)))
+            nearest = nearest_of(known, seconds)
             if abs((nearest.seconds or 0) - seconds) <= NEAR:
                 found.append(one.decibels - nearest.decibels)
     if found or not ours.levels or theirs.level is None:
@@ -379,7 +386,7 @@ class Lists:
 
     def pair_others(self) -> None:
         """Pairs cells that are left in both lists and are one all the same, if there is only one way to do so."""
-        if len(self.our_rest) * len(self.their_rest) > 1_000_000:
+        if len(self.our_rest) * len(self.their_rest) > 200_000:
             return
         found = [
             (one, other, basis)

@@ -157,8 +157,9 @@ def options_of(kind: type[T], args: argparse.Namespace) -> T:
 
 
 def add_file_arguments(parser: Any, **keys: Any) -> None:
-    """Adds what a tool asks of a file; `keys` say how many there may be."""
-    parser.add_argument("file", metavar="FILE", type=pathlib.Path, **keys)
+    """Adds what a tool asks of a file; `keys` are those of its argument."""
+    found: dict[str, Any] = {"metavar": "FILE", "type": pathlib.Path, **keys}
+    parser.add_argument("file", **found)
     says = "by the file's name where it is left out, else s16"
     parser.add_argument("--form", "--format", type=form_argument, choices=FORMS, help=says)
     parser.add_argument("--rate", type=rate, help="samples per second; of SigMF and WAV what they say, else 1.92e6")

@@ -4,18 +4,21 @@ import csv
 import dataclasses
 import io
 import json
+import os
 import random
 import re
 import shutil
+import struct
+import subprocess
 
 import numpy as np
 import pytest
 
-from lte_tools import compare_forms, compare_lists, compare_verdicts, kml, places, radio
+from lte_tools import compare_bundle, compare_forms, compare_lists, compare_verdicts, kml, places, radio
 from lte_tools import survey_page, survey_table, survey_windows
 from lte_tools.survey_data import Detected, Scan, Survey, SurveyIdentity, Track
 from tests import stand_in
-from tests.conftest import EXAMPLES, is_one_line
+from tests.conftest import EXAMPLES, is_one_line, needs
 from tests.stand_in import EARFCN, FAULTS, FORMS
 
 CASES = [(name, fault) for name in FORMS for fault in FAULTS if stand_in.carries(name, fault)]
@@ -176,6 +179,31 @@ def test_eight_bits_of_a_frame_number(ours):
     rows[3] = rows[3][: rows[3].rindex(",")] + ",20"  # 77 // 4 is 19
     found = compared(ours, "\n".join(rows).encode())
     assert differences(found) == [("differ", "sfn", 64)] and "compared modulo 4" in " ".join(found.notes)
+
+
+@needs("tshark", "editcap")
+def test_identity_of_a_capture_is_in_a_comment_or_not_known(ours, tmp_path):
+    """A phone's packets have another address than those of lte_pcap."""
+    data = stand_in.capture(stand_in.truth())
+    for one in stand_in.truth():
+        data = data.replace(bytes((127, 0, *divmod(one["identity"], 100))), bytes((10, 0, 0, 2)))
+    found = compared(ours, data)
+    assert differences(found) == [] and "identity" not in found.fields and {"tac", "cell", "band"} <= set(found.fields)
+    (tmp_path / "a.pcap").write_bytes(data)
+    words = ["-a", "7:PCI: 272 of the serving cell"]  # the first packet with a SIB1 of PCI 271
+    subprocess.run(["editcap", *words, tmp_path / "a.pcap", tmp_path / "b.pcapng"], check=True)
+    found = compared(ours, (tmp_path / "b.pcapng").read_bytes())
+    assert differences(found) == [("differ", "identity", 271)]
+
+
+@needs("tshark")
+def test_capture_of_a_user_link_type_has_sib1(ours):
+    """Packets of DLT_USER0 (147) that are SIB1 alone."""
+    blocks = [bytes.fromhex(stand_in.blocks_of(one)[1]) for one in stand_in.truth()]
+    packets = [struct.pack("<IIII", 0, 0, len(block), len(block)) + block for block in blocks]
+    found = compared(ours, b"".join([struct.pack("<IHHiIII", 0xA1B2C3D4, 2, 4, 0, 0, 65_535, 147), *packets]))
+    assert [one.verdict for one in found.verdicts] == ["agree"] * 5
+    assert {"plmn", "tac", "cell", "band"} == set(found.fields) - {"level"}
 
 
 # ---- our own forms
@@ -431,3 +459,134 @@ def test_weak_cell_is_heard_below_the_rule(tool, sent, tmp_path):
     assert run.status == 1, run.err
     case, note = reasons(run)[217]
     assert case == "below-our-rule" and re.search(r"half-frames with \d+ of 124 signs", note) and "our choice" in note
+
+
+# ---- bundles
+
+CERTIFY = """#!/usr/bin/python3
+# lte_cli, with certificates of the stored evidence: soft values of 0, whose general table is 0 everywhere
+import json, subprocess, struct, sys
+words, stored = sys.argv[1:], {stored!r}
+if words == ["version"]:
+    print("lte_cli stand-in\\ndefinition 2")
+elif words[0] != "certify":
+    sys.exit(subprocess.run([stored, *words]).returncode)
+else:
+    rules = {{(): "one-port", ("--ports", "2"): "two-ports", ("--ports", "4"): "four-ports"}}
+    name = rules.get(tuple(words[1:]), "long-prefix")
+    done = subprocess.run([stored, "evidence", "--all", "--json"], capture_output=True, check=True)
+    for line in json.loads(done.stdout):
+        if line["rule"] == name:
+            word = int(line["mib"], 16) << 16
+            sys.stdout.buffer.write(b"LTC2" + bytes(240) + word.to_bytes(5, "big") + bytes(4 + 10_240 + 8))
+"""
+
+
+@pytest.fixture
+def certifying(programs, monkeypatch, tmp_path):
+    """The stored programs, with certificates."""
+    path = tmp_path / "lte_cli_with_certificates"
+    path.write_text(CERTIFY.format(stored=str(programs / "lte_cli")))
+    path.chmod(0o755)
+    monkeypatch.setenv("LTE_CLI", str(path))
+
+
+@pytest.fixture
+def bundle(tool, certifying, recording, tmp_path):
+    """A bundle of a cell that only their list has, and of one whose tracking area differs."""
+    theirs = tmp_path / "theirs.csv"
+    theirs.write_text("pci,tac,start\n217,256,0.0073958333\n400,9,0.001\n301,9,0.0073958333\n")
+    run = tool("compare", recording, theirs, *FAST, "--bundle", tmp_path / "a.tar")
+    assert run.status == 1, run.err
+    return tmp_path / "a.tar"
+
+
+def test_bundle_holds_and_equal_input_makes_equal_bytes(tool, bundle, recording, tmp_path):
+    run = tool("compare", "--verify", bundle)
+    assert run.status == 0 and ": holds: " in run.out and run.out.count("\n") == 1, run
+    (tmp_path / "further").mkdir()
+    copies = [shutil.copy(path, tmp_path / "further") for path in (recording, tmp_path / "theirs.csv")]
+    other = tmp_path / "further/b.tar"
+    assert tool("compare", *copies, *FAST, "--bundle", other).status == 1
+    assert other.read_bytes() == bundle.read_bytes()
+
+
+def test_script_of_a_bundle_compares_the_answers(bundle, tmp_path, monkeypatch):
+    """verify, with the programs on PATH."""
+    folder = tmp_path / "out"
+    (folder / "windows").mkdir(parents=True)
+    for name, data in files_of(bundle).items():
+        (folder / name).write_bytes(data)
+    (tmp_path / "bin").mkdir()
+    (tmp_path / "bin/lte_cli").symlink_to(os.environ["LTE_CLI"])
+    monkeypatch.setenv("PATH", f"{tmp_path / 'bin'}:{os.environ['PATH']}")
+    words = {"cwd": folder, "capture_output": True, "check": False}
+    assert subprocess.run(["sh", "verify"], **words).returncode == 0
+    path = folder / "windows/0.evidence.json"
+    path.write_bytes(path.read_bytes().replace(b"217", b"218", 1))
+    assert subprocess.run(["sh", "verify"], **words).returncode == 1
+
+
+def files_of(path):
+    return compare_bundle.read(path.read_bytes(), "a")
+
+
+def test_bundle_has_what_it_states(bundle):
+    files = files_of(bundle)
+    assert {"README.txt", "bundle.json", "comparison.json", "ours.json", "reasons.json", "theirs", "verify"} <= set(
+        files
+    )
+    assert {"windows/0.ci16", "windows/0.evidence.json", "windows/0.why-400-one-port.json"} <= set(files)
+    assert len(files["windows/0.one-port.cert"]) == 10_501 and files["windows/0.two-ports.cert"] == b""
+
+
+@pytest.mark.parametrize(
+    "name",
+    ["windows/0.ci16", "windows/0.one-port.cert", "windows/0.evidence.json", "theirs", "ours.json", "bundle.json"],
+)
+def test_changed_byte_is_found(tool, bundle, name):
+    data = bytearray(bundle.read_bytes())
+    place = bytes(data).index(files_of(bundle)[name])
+    size = len(files_of(bundle)[name])
+    for at in (place, place + size // 2, place + size - 1):
+        changed = bytearray(data)
+        changed[at] ^= 1
+        bundle.write_bytes(changed)
+        run = tool("compare", "--verify", bundle)
+        assert run.status in (1, 2) and (run.out + run.err).count("\n") == 1 and "Traceback" not in run.err, at
+
+
+@pytest.mark.parametrize(
+    "name, says",
+    [
+        ("windows/0.one-port.cert", "certificate 0 is of another MIB"),
+        ("windows/0.ids.json", "reports something else now"),
+        ("comparison.json", "the verdicts differ now"),
+    ],
+)
+def test_changed_claim_is_found_though_its_sum_is_right(tool, bundle, name, says):
+    """Whoever changes a file can change its sum too: the programs are asked again."""
+    files = files_of(bundle)
+    data = bytearray(files[name])
+    data[244 if name.endswith("cert") else data.index(b"1")] ^= 2
+    files[name] = bytes(data)
+    head = json.loads(files["bundle.json"])
+    head["sums"][name] = compare_bundle.digest(files[name])
+    files["bundle.json"] = compare_bundle.json_text(head)
+    bundle.write_bytes(compare_bundle.archive(files))
+    faults = compare_bundle.verify(bundle)
+    assert any(says in one for one in faults)
+    assert tool("compare", "--verify", bundle).status == 1
+
+
+@pytest.mark.parametrize("data", [b"", b"x" * 2_000, bytes(10_240), compare_bundle.archive({"a": b"1"})])
+def test_file_that_is_no_bundle(tool, tmp_path, data):
+    path = tmp_path / "x.tar"
+    path.write_bytes(data)
+    run = tool("compare", "--verify", path)
+    assert is_one_line(run) and run.status == 2 and str(path) in run.err
+
+
+def test_bundle_needs_a_recording(tool, files, tmp_path):
+    assert tool("compare", *files, "--bundle", tmp_path / "x.tar").status == 2
+    assert not (tmp_path / "x.tar").exists()

@@ -19,8 +19,10 @@ _lte_compare() {
         --gain) compopt +o default 2> /dev/null; return ;;
         --jobs) compopt +o default 2> /dev/null; return ;;
         --earfcn) compopt +o default 2> /dev/null; return ;;
+        --bundle) return ;;
+        --verify) return ;;
         --html) return ;;
-        *) if [[ $current == -* ]]; then choices='-h --help --version --form --format --rate --shift --carrier --at --exchanged --channel --as --columns --fields --tolerance --every --offset --gain --jobs --scan --deep --earfcn --html --csv --json'; else return; fi ;;
+        *) if [[ $current == -* ]]; then choices='-h --help --version --form --format --rate --shift --carrier --at --exchanged --channel --as --columns --fields --tolerance --every --offset --gain --jobs --scan --deep --earfcn --bundle --verify --html --csv --json'; else return; fi ;;
     esac
     mapfile -t COMPREPLY < <(compgen -W "$choices" -- "$current")
 }
