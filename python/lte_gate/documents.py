@@ -31,16 +31,16 @@ BUDGETS = {
     "README.md": 2250,
     "CONTRIBUTING.md": 2350,
     "CHANGELOG.md": 2600,
-    "docs/ARCHITECTURE.md": 4200,
-    "docs/CLAIMS.md": 5700,
+    "docs/ARCHITECTURE.md": 4300,
+    "docs/CLAIMS.md": 5900,
     "docs/DECISIONS.md": 5300,
-    "docs/DEFINITION.md": 7500,
+    "docs/DEFINITION.md": 8000,
     "docs/FORMATS.md": 13000,
     "docs/PERFORMANCE.md": 1850,
     "docs/PROOF_NOTES.md": 6350,
     "docs/RECORDINGS.md": 6400,
     "scripts/README.md": 340,
-    "python/lte_reference/README.md": 620,
+    "python/lte_reference/README.md": 650,
 }
 EXAMPLES = TOP / "scripts/examples/outputs"
 LISTS = ("search", "search_all", "search_cancel", "evidence", "evidence_all")
