@@ -17,8 +17,8 @@ use tailbite::{Trellis, least};
 // The 24 bits of the decoded MIB, or 0; its matching signs; and the matching signs at the next phase.
 type Numbers = [u32; 3];
 
-// The identity; the ports and the 24 bits of the sent MIB; phase and count of the frames; amplitude; the noise's level and
-// seed; and what is decoded.
+// The identity; the ports and the 24 bits of the sent MIB; phase and count of the frames; amplitude; level and seed of
+// the noise; and what is decoded.
 type Row = (u16, u8, u32, usize, usize, i16, u32, u32, Numbers);
 
 const ROWS: [Row; 11] = [
