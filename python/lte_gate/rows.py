@@ -373,6 +373,7 @@ def numpy_looks():
         Look("crates/accumulated_tests/src/primary_candidates.rt", "$PY -m lte_reference.deep_rows", each_line),
         Look("crates/accumulated_tests/src/secondary_signs.rt", "$PY -m lte_reference.deep_sign_rows", each_line),
         Look("crates/accumulated_tests/src/lists.rt", "$PY -m lte_reference.deep_list_rows", each_line),
+        Look("crates/added_tests/src/masters.rt", "$PY -m lte_reference.added_rows", each_line),
         *(
             Look(f"crates/wide_tests/src/{file}.rt", f"$PY -m lte_reference.wide_subframes {topic}", each_line)
             for topic, file in (("alone", "rows"), ("together", "rows"), ("turned", "lists"))

@@ -73,6 +73,19 @@ def added(sums, upper):
     return sum(period * (1 - 2 * changed(upper, d)) for d, period in enumerate(sums))
 
 
+def decoded(sums):
+    """Returns the word of minimum cost and its matching signs."""
+    _, word = search.least(sums)
+    return word, matching_signs(sums, word)
+
+
+def block_of(word, signs, ports, upper):
+    """Returns the 24 bits of the MIB that a word is with these ports and this number, or None."""
+    block = word >> 16
+    is_valid = word == word_of(block, ports) and block >> 21 <= 5 and block >> 10 & 255 == upper
+    return block if is_valid and signs >= SIGNS else None
+
+
 def masters(identity, ports, frames):
     """Yields the MIBs with a port count, by phase and number. Equal sums are decoded once."""
     for phase in range(4):
@@ -80,11 +93,10 @@ def masters(identity, ports, frames):
         for upper in range(256):
             total = added(sums, upper)
             key = total.tobytes()
-            word = words[key] = words[key] if key in words else search.least(total)[1]
-            signs = matching_signs(total, word)
-            block = word >> 16
-            if word == word_of(block, ports) and block >> 21 <= 5 and block >> 10 & 255 == upper and signs >= SIGNS:
-                yield Master(ports, phase, block, signs)
+            words[key] = words[key] if key in words else decoded(total)
+            block = block_of(*words[key], ports, upper)
+            if block is not None:
+                yield Master(ports, phase, block, words[key][1])
 
 
 def master(identity, frames):

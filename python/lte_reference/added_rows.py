@@ -1,31 +1,29 @@
 """python3 -m lte_reference.added_rows
 
-Prints the MIBs that `added_master.py` decodes from frames that a test makes again (crates/accumulated_tests), a row for
-each as the test writes it: identity; the ports by whose mask the MIB is sent; the 24 bits of the first frame's MIB; the
-phase of the first frame; the number of frames; the amplitudes of the frames for one, two and four ports; the noise's level
-and seed; and ports, phase, 24 bits and matching signs of the MIB, or zeros. A soft value is the amplitude, negative for
+Prints how `added_master.py` decodes frames that a test makes again (crates/added_tests), a row for each as the test writes
+it: identity; the ports by whose mask the MIB is sent; the 24 bits of the first frame's MIB; the phase of the first frame;
+the number of frames; amplitude; the noise's level and seed; and the 24 bits of the decoded MIB, or 0 if there is none,
+with the matching signs at the sent phase and number, and at the next phase. A soft value is the amplitude, negative for
 the bit 1, with noise from -level to level, limited to -127 to 127.
 """
 from . import added_master, search
 
 ROWS = (
     # noise alone, silence, and a cell in noise, from each phase and with each port count
-    (7, 1, 0x48D1A4, 0, 17, (0, 0, 0), 20, 1),
-    (7, 1, 0x48D1A4, 0, 17, (0, 0, 0), 0, 2),
-    (7, 1, 0x48D1A4, 0, 17, (2, 0, 0), 20, 3),
-    (271, 2, 0x6FFC00, 1, 17, (0, 2, 0), 20, 4),
-    (503, 4, 0x0403FF, 2, 16, (0, 0, 2), 20, 5),
+    (7, 1, 0x48D1A4, 0, 17, 0, 20, 1),
+    (7, 1, 0x48D1A4, 0, 17, 0, 0, 2),
+    (7, 1, 0x48D1A4, 0, 17, 2, 20, 3),
+    (271, 2, 0x6FFC00, 1, 17, 2, 20, 4),
+    (503, 4, 0x0403FF, 2, 16, 2, 20, 5),
     # the frame number begins again, from phase 3
-    (100, 1, 0x8BFE22, 3, 17, (3, 0, 0), 20, 6),
-    # the frames of another port count have the MIB too, and better; its mask alone decides
-    (100, 2, 0xA2AA01, 0, 9, (9, 3, 0), 20, 7),
+    (100, 1, 0x8BFE22, 3, 17, 3, 20, 6),
     # three frames, one, and none
-    (33, 1, 0x000000, 2, 3, (5, 0, 0), 20, 8),
-    (33, 1, 0x0F0F0F, 3, 1, (100, 0, 0), 127, 9),
-    (33, 1, 0x012345, 0, 0, (9, 0, 0), 20, 10),
+    (33, 1, 0x000004, 2, 3, 5, 20, 8),
+    (33, 1, 0x0F0F0F, 3, 1, 100, 127, 9),
+    (33, 1, 0x012345, 0, 0, 9, 20, 10),
     # a reserved bandwidth code, and saturated values
-    (45, 1, 0xC00000, 0, 8, (9, 0, 0), 20, 11),
-    (45, 1, 0x2468AC, 1, 12, (127, 0, 0), 100, 12),
+    (45, 1, 0xC00000, 0, 8, 9, 20, 11),
+    (45, 1, 0x2468AC, 1, 12, 127, 100, 12),
 )
 
 
@@ -58,14 +56,14 @@ def frames(identity, ports, block, phase, count, amplitude, level, seed):
     return out
 
 
-def expected(identity, ports, block, phase, count, amplitudes, level, seed):
-    """Returns the numbers of the MIB that the frames of a row decode to, or zeros."""
-    by_ports = {
-        each: frames(identity, ports, block, phase, count, amplitude, level, seed + 100 * each)
-        for each, amplitude in zip((1, 2, 4), amplitudes)
-    }
-    found = added_master.master(identity, by_ports)
-    return list(found) if found else [0] * 4
+def expected(identity, ports, block, phase, count, amplitude, level, seed):
+    """Returns the numbers that the frames of a row decode to."""
+    received = frames(identity, ports, block, phase, count, amplitude, level, seed)
+    upper = block >> 10 & 255
+    sums = added_master.added(added_master.period_sums(identity, phase, received), upper)
+    others = added_master.added(added_master.period_sums(identity, (phase + 1) % 4, received), upper)
+    (word, signs), (_, other) = added_master.decoded(sums), added_master.decoded(others)
+    return [added_master.block_of(word, signs, ports, upper) or 0, signs, other]
 
 
 def main():

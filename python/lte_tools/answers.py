@@ -220,7 +220,7 @@ class Cell(Answer):
 @dataclass(frozen=True)
 class Evidence(Answer):
     """What supports a line of a list (`lte_cli evidence`): `cost` of `total` soft bits speak against the MIB, `peak` in
-    thousandths, `power` and `noise` sums over reference elements, `channel` the reference elements of each antenna
+    thousandths, `power` and `noise` sums over reference elements, `room` by how much every other MIB costs more at least, `channel` the reference elements of each antenna
     port (pairs of real and imaginary part), `values` the soft values, `mib` and `sib1_block` hexadecimal digits."""
 
     at: int
@@ -234,6 +234,7 @@ class Evidence(Answer):
     peak: int
     phase: int
     power: int
+    room: int
     sfn: int
     sib1_block: str | None
     t: int

@@ -77,7 +77,8 @@ def test_meaning_of_a_word(heading, word, text):
 
 def test_schema_has_the_fields_of_the_survey(survey):
     defined = foreign.schema()["$defs"]
-    more = {"clashes", "coverage", "plan", "identities", "live", "parts", "scan", "track"}
+    more = {"clashes", "classes", "coverage", "grid", "identities", "live", "neighbours", "parts", "plan", "pollution"}
+    more |= {"scan", "servers", "track"}
     assert set(survey.to_json()) | more == set(defined["survey"]["properties"])
     cell = dataclasses.replace(survey.cells[0], shift=0.0)
     assert set(cell.to_json(is_deep=True)) == set(defined["surveyed"]["properties"])

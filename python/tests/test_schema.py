@@ -59,7 +59,7 @@ def test_each_reason_is_compared():
 
 def test_evidence():
     place, numbers = (names_of("report_parts/specs/Numbers.antt", name) for name in ("place_in", "numbers_in"))
-    assert is_closed_with(SCHEMA["support"], place | numbers | {"channel", "mib", "sib1_block", "values"})
+    assert is_closed_with(SCHEMA["support"], place | numbers | {"channel", "mib", "room", "sib1_block", "values"})
 
 
 def test_evidence_of_all_lists():

@@ -1,6 +1,6 @@
 //! The MIB from the broadcast channel's soft values, added over up to 17 frames of several periods of 40 ms: the sums,
 //! how many of their signs match, and the choice among port counts, phases and frame numbers.
-//! Tests: the crate `accumulated_tests`.
+//! Tests: the crate `added_tests`.
 #![tactic(auto)]
 
 mod choice;
