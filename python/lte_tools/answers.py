@@ -219,9 +219,10 @@ class Cell(Answer):
 
 @dataclass(frozen=True)
 class Evidence(Answer):
-    """What supports a line of a list (`lte_cli evidence`): `cost` of `total` soft bits speak against the MIB, `peak` in
-    thousandths, `power` and `noise` sums over reference elements, `room` by how much every other MIB costs more at least, `channel` the reference elements of each antenna
-    port (pairs of real and imaginary part), `values` the soft values, `mib` and `sib1_block` hexadecimal digits."""
+    """What supports a line of a list (`lte_cli evidence`): `cost` of `total` soft bits speak against the MIB, and every
+    other MIB costs at least `room` more; `peak` in thousandths, `power` and `noise` sums over reference elements,
+    `channel` the reference elements of each antenna port (pairs of real and imaginary part), `values` the soft values,
+    `mib` and `sib1_block` hexadecimal digits."""
 
     at: int
     channel: tuple[tuple[tuple[int, int], ...], ...]
