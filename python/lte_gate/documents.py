@@ -35,7 +35,7 @@ BUDGETS = {
     "docs/CLAIMS.md": 5700,
     "docs/DECISIONS.md": 5300,
     "docs/DEFINITION.md": 7500,
-    "docs/FORMATS.md": 13700,
+    "docs/FORMATS.md": 14600,
     "docs/PERFORMANCE.md": 1850,
     "docs/PROOF_NOTES.md": 6350,
     "docs/RECORDINGS.md": 7200,

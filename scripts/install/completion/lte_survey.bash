@@ -27,7 +27,9 @@ _lte_survey() {
         --network) compopt +o default 2> /dev/null; return ;;
         --clashes) compopt +o default 2> /dev/null; return ;;
         --coverage) compopt +o default 2> /dev/null; return ;;
-        *) if [[ $current == -* ]]; then choices='-h --help --form --rate --shift --carrier --at --exchanged --channel --every --offset --gain --jobs --scan --deep --earfcn --follow --wait --track --gpsd --start --geojson --pcap --html --csv-windows --kml --plan --network --clashes --coverage --csv --json'; else return; fi ;;
+        --grid) compopt +o default 2> /dev/null; return ;;
+        --pollution) compopt +o default 2> /dev/null; return ;;
+        *) if [[ $current == -* ]]; then choices='-h --help --form --rate --shift --carrier --at --exchanged --channel --every --offset --gain --jobs --scan --deep --earfcn --follow --wait --track --gpsd --start --geojson --pcap --html --csv-windows --kml --plan --network --clashes --coverage --servers --grid --pollution --neighbours --classes --csv --json'; else return; fi ;;
     esac
     mapfile -t COMPREPLY < <(compgen -W "$choices" -- "$current")
 }
