@@ -36,7 +36,7 @@ BUDGETS = {
     "docs/DECISIONS.md": 6000,
     "docs/DEFINITION.md": 8000,
     "docs/COMPARE.md": 2000,
-    "docs/FORMATS.md": 14500,
+    "docs/FORMATS.md": 14600,
     "docs/CERTIFICATES.md": 1800,
     "docs/SYNTHETIC.md": 3100,
     "docs/GLOSSARY.md": 1800,

@@ -6,6 +6,7 @@ survey.py FILE --pcap OUT.pcap
 survey.py FILE --scan [--carrier CENTRE]
 survey.py FILE --deep
 survey.py SURVEY.json [--plan CSV] [--clashes DB] [--coverage LEVEL,RATIO] [--csv-windows OUT] [--kml OUT]
+survey.py SURVEY.json [--servers] [--grid M] [--pollution N] [--neighbours] [--classes]
 rtl_sdr -f 796e6 -s 1.92e6 - | survey.py - --form u8 --rate 1.92e6 --follow
 
 One table of the cells in a radio's file of any length: identity, when it was first and last seen and in how many
@@ -33,7 +34,9 @@ carrier of the 100 kHz raster in the file. Standard input (-) is looked at as it
 a radio may begin again. With --follow a named pipe waits for its next writer.
 
 Further tables: --plan compares with a list of planned cells, --clashes lists for each cell the others that are nearly as
-strong in the same windows, --coverage sums up how much of the way the strongest cell covers; --html has these tables too.
+strong in the same windows, --coverage sums up how much of the way the strongest cell covers. --servers has the best server
+along the way, --grid in squares of ground, --pollution the places with several cells within 6 dB of it, --neighbours who is
+heard with whom, --classes how much of the way each class of RSRP, RSRQ and SINR has. --html has these tables too.
 --csv-windows, --geojson and --kml have windows without a cell too. In place of samples, FILE may be a survey that --json
 wrote (.json).
 
