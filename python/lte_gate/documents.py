@@ -30,7 +30,7 @@ HISTORY = ("CHANGELOG.md",)
 BUDGETS = {
     "README.md": 2250,
     "CONTRIBUTING.md": 2350,
-    "CHANGELOG.md": 3400,
+    "CHANGELOG.md": 4000,
     "docs/ARCHITECTURE.md": 4900,
     "docs/CLAIMS.md": 6800,
     "docs/DECISIONS.md": 6000,
