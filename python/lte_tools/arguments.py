@@ -86,6 +86,14 @@ def limits(text: str) -> tuple[float, float]:
     return decibels(parts[0]), decibels(parts[1])
 
 
+def part(text: str) -> tuple[int, int]:
+    """Returns a part's number and the count of parts, as 3/40."""
+    found = re.fullmatch(r"(\d{1,6})/(\d{1,6})", text)
+    if not found or not 1 <= int(found[1]) <= int(found[2]):
+        raise argparse.ArgumentTypeError(f"{text!r} is not a part such as 3/40, from 1/40 to 40/40")
+    return int(found[1]), int(found[2])
+
+
 def not_negative(text: str) -> float:
     """Returns a number of 0 or more."""
     value = number(text)

@@ -13,8 +13,10 @@ import shutil
 import signal
 import subprocess
 import sys
+from types import FrameType
 from typing import Any, Callable, Iterable, NoReturn
 
+TERMINATED = 128 + signal.SIGTERM  # status of a tool that SIGTERM ended, as a shell has it
 TOP = pathlib.Path(__file__).resolve().parent.parent.parent
 
 
@@ -33,6 +35,25 @@ class ProgramRefused(Refused):
         super().__init__(f"{command}: {cause}")
         self.command, self.cause, self.exit_code = command, cause, exit_code
 
+    def __reduce__(self) -> tuple[type, tuple[str, str, int]]:
+        """Returns how it is made again in another process."""
+        return type(self), (self.command, self.cause, self.exit_code)
+
+
+class Stopped(KeyboardInterrupt):
+    """A signal ends the tool, by its number."""
+
+    def __init__(self, kind: int) -> None:
+        super().__init__()
+        self.kind = kind
+
+
+def stop(kind: int, _: FrameType | None) -> None:
+    """Ends the tool at a signal, which may come to all its processes, and then once more."""
+    for one in (signal.SIGINT, signal.SIGTERM):
+        signal.signal(one, signal.SIG_IGN)
+    raise Stopped(kind)
+
 
 def tool_name() -> str:
     """Returns the name by which this tool was called."""
@@ -44,16 +65,17 @@ def note(text: str) -> None:
     print(f"{tool_name()}: {text}", file=sys.stderr)
 
 
-def fail(text: str) -> NoReturn:
-    """Ends the tool with one line on standard error and status 1."""
+def fail(text: str, status: int = 1) -> NoReturn:
+    """Ends the tool with one line on standard error and a status."""
     print(f"{tool_name()}: {' '.join(text.split())}".encode(errors="backslashreplace").decode(), file=sys.stderr)
-    raise SystemExit(1)
+    raise SystemExit(status)
 
 
 def run(command: Callable[[], None], *packages: str) -> None:
     """Runs a tool's command, which needs these Python packages, and turns its refusals into one line each."""
     check_packages(*packages)
-    signal.signal(signal.SIGINT, signal.default_int_handler)
+    signal.signal(signal.SIGINT, stop)
+    signal.signal(signal.SIGTERM, stop)
     if isinstance(sys.stdout, io.TextIOWrapper):
         sys.stdout.reconfigure(errors="surrogateescape")  # names of files that are not UTF-8
     try:
@@ -67,8 +89,9 @@ def run(command: Callable[[], None], *packages: str) -> None:
         fail(f"{fault.filename or 'output'}: {fault.strerror}")
     except MemoryError:
         fail("out of memory: --every, or a shorter file, needs less")
-    except KeyboardInterrupt:
-        fail("stopped")
+    except KeyboardInterrupt as stopped:
+        is_term = isinstance(stopped, Stopped) and stopped.kind == signal.SIGTERM
+        fail(": ".join(["stopped", *map(str, stopped.args)]), TERMINATED if is_term else 1)
 
 
 def check_packages(*packages: str) -> None:

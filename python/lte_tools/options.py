@@ -13,7 +13,7 @@ from dataclasses import dataclass
 from typing import Any, TypeVar, Union
 
 from . import bands, machine, track
-from .arguments import Parser, apart, at_least_one, decibels, gain, limits, not_negative, number, rate
+from .arguments import Parser, apart, at_least_one, decibels, gain, limits, not_negative, number, part, positive, rate
 from .machine import Refused
 
 WINDOW = 0.17  # seconds of a window: the 17 frames that a list depends on
@@ -26,6 +26,12 @@ OF_SAMPLES = (
     "rate",
     "shift",
     "at",
+    "until",
+    "part",
+    "resume",
+    "join",
+    "so_far",
+    "dask",
     "exchanged",
     "channel",
     "offset",
@@ -69,9 +75,17 @@ class FileOptions:
 @dataclass(frozen=True)
 class SurveyOptions(FileOptions):
     """Options of a survey: `every` in seconds, `offset` in hertz, `gain` in dB, or pairs of a second of the file and the dB
-    from there on, `jobs` processes, `clashes` in dB, `coverage` a level in the survey's unit and a ratio in dB."""
+    from there on, `jobs` processes, `clashes` in dB, `coverage` a level in the survey's unit and a ratio in dB. `until` is a
+    second, `part` a number from 1 and the count of parts, `resume` and `join` are journals, `dask` is a scheduler's address.
+    """
 
     every: float = WINDOW
+    until: float | None = None
+    part: tuple[int, int] | None = None
+    resume: pathlib.Path | None = None
+    join: tuple[pathlib.Path, ...] = ()
+    so_far: bool = False
+    dask: str | None = None
     offset: float | None = None
     gain: Gain = None
     jobs: int = 1
@@ -100,6 +114,16 @@ class SurveyOptions(FileOptions):
         return self.track is not None or self.gpsd is not None
 
     @property
+    def is_scan(self) -> bool:
+        """Whether several frequencies are looked at."""
+        return self.scan
+
+    @property
+    def is_kept(self) -> bool:
+        """Whether a journal has answers, or gets them."""
+        return self.resume is not None or bool(self.join)
+
+    @property
     def is_survey(self) -> bool:
         """Whether the file is a survey that was made before, by its name."""
         return self.file.suffix == ".json"
@@ -124,6 +148,8 @@ def options_of(kind: type[T], args: argparse.Namespace) -> T:
     """Returns the options that arguments name; the others keep their defaults."""
     names = {one.name for one in dataclasses.fields(kind)}
     found = {key: value for key, value in vars(args).items() if key in names and value is not None}
+    if "join" in found:
+        found["join"] = tuple(found["join"])
     if isinstance(found["file"], list):
         first, *further = found["file"]
         found |= {"file": first, "further": tuple(further)}
@@ -161,6 +187,12 @@ def survey_parser(text: str | None) -> argparse.ArgumentParser:
     add_file_arguments(parser, nargs="+", help="a file, or several that are one drive")
     add: Any = parser.add_argument
     add("--every", type=apart, help="seconds from one window to the next (0.17, of --scan 10)")
+    add("--until", type=positive, metavar="S", help="the second at which to end (the file's end)")
+    add("--resume", type=pathlib.Path, metavar="FILE", help="a journal: what it has is not asked again, the rest is added")
+    add("--so-far", action="store_true", help="the survey of what the journal of --resume has, without further questions")
+    add("--part", type=part, metavar="K/N", help="the windows of part K of N alone, as for a job array")
+    add("--join", type=pathlib.Path, metavar="FILE", nargs="+", help="journals of parts: what they have is not asked again")
+    add("--dask", metavar="ADDRESS", help="ask the workers of this Dask scheduler, as tcp://10.0.0.1:8786")
     add("--offset", type=number, help="hertz to take off at first, in place of what lte_tune tells")
     add(
         "--gain",
@@ -230,6 +262,7 @@ def checked_survey(options: SurveyOptions, has_every: bool = True) -> SurveyOpti
     if options.scan and not has_every:
         options = dataclasses.replace(options, every=EVERY_OF_SCAN)
     check_input(options)
+    check_campaign(options)
     check_tables(options)
     for name in ("geojson", "kml"):
         if getattr(options, name) and not options.has_places and not options.is_survey:
@@ -267,6 +300,29 @@ def check_input(options: SurveyOptions) -> None:
             raise Refused("-: with --wait the samples come later than they were received: --start says when that was")
     elif options.follow or options.wait:
         raise Refused(f"{options.file}: --{'follow' if options.follow else 'wait'} is for -, standard input")
+
+
+def check_campaign(options: SurveyOptions) -> None:
+    """Refuses options of journals, parts and Dask that do not fit the others."""
+    if options.is_input:
+        for name in ("until", "part", "resume", "join", "dask"):
+            if getattr(options, name):
+                raise Refused(f"-: --{name} needs a file")
+    if options.until is not None and options.until <= options.at:
+        raise Refused(f"--until {options.until:g}: not after --at {options.at:g}")
+    if options.so_far and options.resume is None:
+        raise Refused("--so-far: --resume FILE says which journal")
+    if options.so_far and (options.join or options.part):
+        raise Refused("--so-far: without --join and --part")
+    if options.join and options.part:
+        raise Refused("--join and --part: a part has a journal of its own, by --resume")
+    for one in options.join:
+        if options.resume and one.exists() and options.resume.exists() and one.samefile(options.resume):
+            raise Refused(f"{one}: --resume and --join have it both")
+    if options.resume and not options.so_far:
+        machine.check_place(options.resume, [*options.files, options.track, options.gpsd, options.plan])
+    if options.dask is not None:
+        machine.check_packages("distributed")
 
 
 def check_tables(options: SurveyOptions) -> None:
