@@ -24,19 +24,19 @@ class Questions:
     def __call__(self, phase: str, function: Callable[[Any], Any], tasks: Sequence[Any]) -> list[Any]:
         """Returns a function's answer for each task."""
         kept = self.kept if phase in journal.KEPT else None
-        keys = [kept.key_of(phase, function, task) for task in tasks] if kept else []
-        open_ = [i for i in range(len(tasks)) if not kept or not kept.has(keys[i][0])]
+        keys = [] if kept is None else [kept.key_of(phase, function, task) for task in tasks]
+        open_ = [i for i in range(len(tasks)) if kept is None or not kept.has(keys[i][0])]
         self.progress.begin(phase, len(tasks), len(tasks) - len(open_))
         found: dict[int, Any] = {}
         for number, answer in self.engine(function, [tasks[i] for i in open_]):
             i = open_[number]
             found[i] = answer
-            if kept:
+            if kept is not None:
                 kept.put(keys[i][0], phase, keys[i][1], answer)
             self.progress.step()
             self.asked += 1
         self.progress.end()
-        if kept:
+        if kept is not None:
             found |= {i: kept.answer(key) for i, (key, _) in enumerate(keys) if i not in found}
         return [found[i] for i in range(len(tasks))]
 

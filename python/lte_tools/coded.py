@@ -43,11 +43,11 @@ READERS: dict[str, Callable[[str], Any]] = {"int64": int, "int32": int, "bool_":
 
 
 @functools.cache
-def names_of(kind: type) -> tuple[str, ...]:
+def names_of(kind: Any) -> tuple[str, ...]:
     """Returns the names of a record's fields."""
     if dataclasses.is_dataclass(kind):
         return tuple(one.name for one in dataclasses.fields(kind))
-    return tuple(kind._fields)  # type: ignore[attr-defined]
+    return tuple(kind._fields)
 
 
 def coded(value: Any, file: RadioFile) -> Any:

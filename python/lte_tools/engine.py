@@ -11,6 +11,7 @@ import contextlib
 import dataclasses
 import functools
 import importlib.util
+import logging
 import multiprocessing
 import signal
 import traceback
@@ -27,6 +28,7 @@ Map = Callable[[Function, Iterable[Any]], Iterable[Any]]
 
 TRIES = 3  # processes that may be killed with one task, before it is refused
 CONNECT = 10  # seconds for a scheduler's answer
+ENDED = "--dask: the scheduler has ended"
 LOST = "a process was killed, and the next ones with its window too: is there enough memory?"
 
 
@@ -178,6 +180,7 @@ def of_dask(address: str) -> Iterator[Engine]:
         raise Refused("--dask needs the package distributed (Debian: python3-distributed)")
     import distributed
 
+    logging.getLogger("distributed").setLevel(logging.CRITICAL)  # what matters is refused in one line
     try:
         client = distributed.Client(address, timeout=CONNECT, set_as_default=False)
     except (OSError, ValueError, TypeError) as fault:
@@ -195,14 +198,16 @@ def by_dask(client: Any, function: Function, tasks: Sequence[Any]) -> Answered:
     numbers = {}
     for number, future in enumerate(client.map(function, tasks, pure=False)):
         numbers[future] = number
-    for future in distributed.as_completed(list(numbers)):
+    for future in distributed.as_completed(list(numbers), loop=client.loop):
         number = numbers.pop(future)
         try:
             yield number, future.result()
         except distributed.KilledWorker:
             raise Refused(LOST) from None
         except distributed.CancelledError:
-            raise Refused(f"--dask {client.scheduler.address}: the scheduler has ended") from None
+            raise Refused(ENDED) from None
+        except OSError as fault:
+            raise fault if fault.filename else Refused(ENDED) from None
 
 
 def check_dask(address: str | None) -> None:

@@ -72,7 +72,11 @@ def head_of(file: RadioFile) -> dict[str, Any]:
     }
 
 
-NAMES = {"files": "other files", "programs": "other programs lte_cli and lte_tune", "tools": "another version of these tools"}
+NAMES = {
+    "files": "other files",
+    "programs": "other programs lte_cli and lte_tune",
+    "tools": "another version of these tools",
+}
 
 
 def check_head(path: pathlib.Path, line: bytes, head: dict[str, Any]) -> None:
@@ -136,9 +140,6 @@ class Journal:
         self.file, self.out = file, out
         self.entries: dict[str, Entry] = {}
 
-    def __len__(self) -> int:
-        return len(self.entries)
-
     def key_of(self, phase: str, function: Function, task: Any) -> tuple[str, Any]:
         """Returns the digest of a question, and its task in JSON."""
         return question_of(phase, function, task, self.file)
@@ -183,7 +184,9 @@ class Journal:
 # ---- files
 
 
-def opened(file: RadioFile, resume: pathlib.Path | None, others: Sequence[pathlib.Path] = (), is_read: bool = False) -> Journal:
+def opened(
+    file: RadioFile, resume: pathlib.Path | None, others: Sequence[pathlib.Path] = (), is_read: bool = False
+) -> Journal:
     """Returns the journal at a path, which goes on there, with what others have; with `is_read` it is only read. Another
     survey that writes it is refused."""
     found = Journal(file)
@@ -227,4 +230,3 @@ def lines_of(path: pathlib.Path, data: bytes, head: dict[str, Any]) -> tuple[lis
     first, *lines = (whole or part).splitlines()
     check_head(path, first, head)
     return lines, len(whole)
-

@@ -188,10 +188,25 @@ def survey_parser(text: str | None) -> argparse.ArgumentParser:
     add: Any = parser.add_argument
     add("--every", type=apart, help="seconds from one window to the next (0.17, of --scan 10)")
     add("--until", type=positive, metavar="S", help="the second at which to end (the file's end)")
-    add("--resume", type=pathlib.Path, metavar="FILE", help="a journal: what it has is not asked again, the rest is added")
-    add("--so-far", action="store_true", help="the survey of what the journal of --resume has, without further questions")
+    add(
+        "--resume",
+        type=pathlib.Path,
+        metavar="FILE",
+        help="a journal: what it has is not asked again, the rest is added",
+    )
+    add(
+        "--so-far",
+        action="store_true",
+        help="the survey of what the journal of --resume has, without further questions",
+    )
     add("--part", type=part, metavar="K/N", help="the windows of part K of N alone, as for a job array")
-    add("--join", type=pathlib.Path, metavar="FILE", nargs="+", help="journals of parts: what they have is not asked again")
+    add(
+        "--join",
+        type=pathlib.Path,
+        metavar="FILE",
+        nargs="+",
+        help="journals of parts: what they have is not asked again",
+    )
     add("--dask", metavar="ADDRESS", help="ask the workers of this Dask scheduler, as tcp://10.0.0.1:8786")
     add("--offset", type=number, help="hertz to take off at first, in place of what lte_tune tells")
     add(

@@ -16,7 +16,18 @@ from . import machine
 
 EVERY = 60.0  # seconds from one line to the next, where there is no terminal
 COSTS = {"level": 0.03, "offset": 1.5, "cells": 1.0, "scan": 10.0}  # of a question, beside that of `cells`
-WIDTH = 30  # characters of a plain bar
+WIDTH, DRAWN = 30, 0.2  # characters of a plain bar, and seconds from one to the next
+FORMAT = "{percentage:3.0f}% |{bar}| {desc}"  # of a bar of tqdm
+
+
+def is_terminal() -> bool:
+    """Returns whether standard error is a terminal."""
+    return sys.stderr.isatty()
+
+
+def has_tqdm() -> bool:
+    """Returns whether bars may be those of tqdm."""
+    return importlib.util.find_spec("tqdm") is not None
 
 
 class Progress:
@@ -37,7 +48,7 @@ class Progress:
         self.planned[name] = max(self.planned.get(name, 0) - total, 0)
         self.done += known * cost_of(name)
         self.known += known * cost_of(name)
-        if sys.stderr.isatty() and self.bar is None and importlib.util.find_spec("tqdm"):
+        if is_terminal() and self.bar is None and has_tqdm():
             self.bar = bar_of()
 
     def step(self) -> None:
@@ -45,7 +56,7 @@ class Progress:
         self.count += 1
         self.asked += 1
         self.done += cost_of(self.name)
-        if sys.stderr.isatty():
+        if is_terminal():
             self.draw()
         elif time.monotonic() - self.shown >= EVERY:
             self.shown = time.monotonic()
@@ -56,7 +67,7 @@ class Progress:
         if self.bar is not None:
             self.bar.close()
             self.bar = None
-        elif sys.stderr.isatty() and self.name:
+        elif is_terminal() and self.name:
             print("\r\x1b[K", end="", file=sys.stderr, flush=True)
 
     @property
@@ -87,7 +98,7 @@ class Progress:
         if self.bar is not None:
             self.bar.set_description_str(self.text, refresh=False)
             self.bar.update(100 * share - self.bar.n)
-        elif time.monotonic() - self.shown >= 0.2:
+        elif time.monotonic() - self.shown >= DRAWN:
             self.shown = time.monotonic()
             filled = int(WIDTH * share)
             bar = f"[{'#' * filled}{'.' * (WIDTH - filled)}]"
@@ -98,7 +109,7 @@ def bar_of() -> Any:
     """Returns a bar of tqdm for 100 percent."""
     import tqdm
 
-    return tqdm.tqdm(total=100, leave=False, file=sys.stderr, bar_format="{percentage:3.0f}% |{bar}| {desc}")
+    return tqdm.tqdm(total=100, leave=False, file=sys.stderr, bar_format=FORMAT, mininterval=DRAWN, miniters=0)
 
 
 def cost_of(name: str) -> float:

@@ -123,9 +123,7 @@ class RadioFile:
         """Returns how many hertz the cell is above the centre at a sample."""
         return next((one.shift for one in self.stretches if one.first <= sample < one.end), self.shift)
 
-    def starts(
-        self, at: float, length: float, every: float, until: float | None = None
-    ) -> list[tuple[float, float]]:
+    def starts(self, at: float, length: float, every: float, until: float | None = None) -> list[tuple[float, float]]:
         """Returns the seconds at which windows begin and how long they are: three frames or more, within one stretch, and up
         to the second `until`."""
         least = LEAST / radio.RATE

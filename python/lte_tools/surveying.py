@@ -115,7 +115,9 @@ def survey_of_windows(
     return survey_of_cells(options, file, cells, whole, hint)
 
 
-def so_far(options: SurveyOptions, file: RadioFile, kept: Journal, starts: Sequence[float]) -> tuple[Survey | None, list[float]]:
+def so_far(
+    options: SurveyOptions, file: RadioFile, kept: Journal, starts: Sequence[float]
+) -> tuple[Survey | None, list[float]]:
     """Returns the survey of those windows, of some that begin at these seconds, whose cells a journal has, None if there is
     none, and when they begin."""
     known = {task.start: (task, one) for task, one in kept.of_phase("cells")}
