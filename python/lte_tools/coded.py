@@ -9,7 +9,6 @@ Debian: python3-numpy.
 from __future__ import annotations
 
 import dataclasses
-import functools
 import pathlib
 from typing import Any, Callable
 
@@ -42,7 +41,6 @@ NUMBERS = {name: getattr(np, name) for name in ("float64", "float32", "int64", "
 READERS: dict[str, Callable[[str], Any]] = {"int64": int, "int32": int, "bool_": "True".__eq__}
 
 
-@functools.cache
 def names_of(kind: Any) -> tuple[str, ...]:
     """Returns the names of a record's fields."""
     if dataclasses.is_dataclass(kind):

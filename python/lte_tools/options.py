@@ -13,7 +13,20 @@ from dataclasses import dataclass
 from typing import Any, TypeVar, Union
 
 from . import bands, machine, track
-from .arguments import Parser, apart, at_least_one, decibels, gain, limits, not_negative, number, part, positive, rate
+from .arguments import (
+    Parser,
+    carriers,
+    apart,
+    at_least_one,
+    decibels,
+    gain,
+    limits,
+    not_negative,
+    number,
+    part,
+    positive,
+    rate,
+)
 from .machine import Refused
 
 WINDOW = 0.17  # seconds of a window: the 17 frames that a list depends on
@@ -35,12 +48,9 @@ OF_SAMPLES = (
     "exchanged",
     "channel",
     "offset",
-    "gain",
     "scan",
+    "carriers",
     "deep",
-    "track",
-    "gpsd",
-    "start",
     "every",
 )
 FORMS = ("u8", "s8", "s16", "f32", "sigmf")
@@ -90,6 +100,7 @@ class SurveyOptions(FileOptions):
     gain: Gain = None
     jobs: int = 1
     scan: bool = False
+    carriers: tuple[float, ...] = ()
     deep: bool = False
     earfcn: int | None = None
     follow: bool = False
@@ -116,7 +127,7 @@ class SurveyOptions(FileOptions):
     @property
     def is_scan(self) -> bool:
         """Whether several frequencies are looked at."""
-        return self.scan
+        return self.scan or bool(self.carriers)
 
     @property
     def is_kept(self) -> bool:
@@ -216,6 +227,7 @@ def survey_parser(text: str | None) -> argparse.ArgumentParser:
     )
     add("--jobs", type=at_least_one, default=os.cpu_count() or 1, help="processes (one a processor)")
     add("--scan", action="store_true", help="look at each carrier of the 100 kHz raster in the file")
+    add("--carriers", type=carriers, metavar="LIST", help="scan these alone: EARFCNs or hertz, as 1500,1550,796e6")
     add(
         "--deep",
         action="store_true",
@@ -274,7 +286,9 @@ def checked_survey(options: SurveyOptions, has_every: bool = True) -> SurveyOpti
     files that cannot be written."""
     if options.earfcn is not None:
         options = dataclasses.replace(options, carrier=carrier_of(options))
-    if options.scan and not has_every:
+    if options.carriers:
+        options = dataclasses.replace(options, carriers=tuple(map(hertz_of, options.carriers)))
+    if options.is_scan and not has_every:
         options = dataclasses.replace(options, every=EVERY_OF_SCAN)
     check_input(options)
     check_campaign(options)
@@ -292,6 +306,14 @@ def checked_survey(options: SurveyOptions, has_every: bool = True) -> SurveyOpti
     return checked(options)
 
 
+def hertz_of(carrier: float) -> float:
+    """Returns the frequency in hertz of a carrier that --carriers names, by its number or its frequency."""
+    frequency = carrier if carrier >= LOWEST else bands.frequency_of(round(carrier))
+    if frequency is None:
+        raise Refused(f"--carriers {carrier:g}: no downlink of an FDD band has it")
+    return frequency
+
+
 def carrier_of(options: SurveyOptions) -> float:
     """Returns the carrier in hertz of the number that --earfcn has."""
     if options.carrier:
@@ -306,11 +328,13 @@ def check_input(options: SurveyOptions) -> None:
     """Refuses options that are only for standard input, or only for a file."""
     if options.further and pathlib.Path("-") in options.files:
         raise Refused("-: standard input is not one of several files")
-    if options.deep and options.scan:
-        raise Refused("--deep and --scan: one of them")
+    if options.deep and options.is_scan:
+        raise Refused("--deep and --scan or --carriers: one of them")
+    if options.scan and options.carriers:
+        raise Refused("--scan and --carriers: one of them")
     if options.is_input:
-        if options.scan:
-            raise Refused("-: --scan needs a file")
+        if options.is_scan:
+            raise Refused(f"-: --{'scan' if options.scan else 'carriers'} needs a file")
         if options.wait and options.has_places and options.start is None:
             raise Refused("-: with --wait the samples come later than they were received: --start says when that was")
     elif options.follow or options.wait:
@@ -352,5 +376,3 @@ def check_tables(options: SurveyOptions) -> None:
         for name in OF_SAMPLES:
             if getattr(options, name) != getattr(defaults, name):
                 raise Refused(f"{options.file}: a survey, in which --{name} changes nothing")
-        if options.carrier and options.earfcn is None:
-            raise Refused(f"{options.file}: a survey, in which --carrier changes nothing")

@@ -382,7 +382,9 @@ def survey(path: str | os.PathLike[str], *, map: Map | None = None, **keys: Any)
 def surveyed(given: options.SurveyOptions, mapped: Map | None = None) -> Survey:
     """Returns the survey of a file of samples, or the one that a file of JSON has; `mapped` is a function like `map`."""
     if given.is_survey:
-        return Survey.read(given.file)
+        from . import asked_again
+
+        return asked_again.again(given, Survey.read(given.file))
     from . import campaign
 
     return campaign.survey_of(given, mapped)

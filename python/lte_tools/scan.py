@@ -54,7 +54,15 @@ def raster(file: RadioFile) -> list[float]:
 
 def shifts_of(options: SurveyOptions, file: RadioFile) -> list[float]:
     """Returns how far above the centre each frequency to look at is, in hertz."""
-    return raster(file)
+    if not options.carriers:
+        return raster(file)
+    centre = centre_of(file)
+    if not centre:
+        raise Refused(f"{file.path}: the file's centre is not known: with --carriers, --carrier HZ says it")
+    shifts = sorted({carrier - centre for carrier in options.carriers})
+    for shift in shifts:
+        file.check_holds(shift, f"{centre + shift:,.0f} Hz")
+    return shifts
 
 
 # ---- one window
@@ -176,7 +184,7 @@ def looks_of(options: SurveyOptions, file: RadioFile, starts: Sequence[tuple[flo
     """Returns what is asked of windows: some frequencies at a time, the same whoever asks where answers are kept."""
     shifts = shifts_of(options, file)
     together = math.ceil(len(shifts) * len(starts) / (EACH * options.jobs))
-    if options.is_kept:
+    if options.is_kept or options.dask is not None:
         together = math.ceil(len(shifts) / math.ceil(QUESTIONS / len(starts)))
     together = max(TOGETHER, together)
     some = [shifts[i : i + together] for i in range(0, len(shifts), together)]

@@ -30,7 +30,7 @@ def answer(name, arguments, data):
         return found
     if arguments[0] == "ids":
         cell = {"at": 300, "identity": 33, "matches": 100, "power": 9_000 + number % 999, "ratio": 300, "subframe": 0}
-        return {"cells": [{**cell, "t": 1}], "half_frames": 34}
+        return {"cells": [{**cell, "t": 1132}], "half_frames": 34}
     if arguments[0] == "evidence":
         kind = "evidence_all" if "--all" in arguments else "evidence"
         return evidence(json.loads((OUTPUTS / f"{kind}.json").read_text())[0], number)
