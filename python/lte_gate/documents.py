@@ -30,15 +30,16 @@ HISTORY = ("CHANGELOG.md",)
 BUDGETS = {
     "README.md": 2250,
     "CONTRIBUTING.md": 2350,
-    "CHANGELOG.md": 2600,
+    "CHANGELOG.md": 2750,
     "docs/ARCHITECTURE.md": 4200,
+    "docs/CAMPAIGNS.md": 1350,
     "docs/CLAIMS.md": 5700,
     "docs/DECISIONS.md": 5300,
     "docs/DEFINITION.md": 7500,
     "docs/FORMATS.md": 13000,
     "docs/PERFORMANCE.md": 1850,
     "docs/PROOF_NOTES.md": 6350,
-    "docs/RECORDINGS.md": 6400,
+    "docs/RECORDINGS.md": 6450,
     "scripts/README.md": 340,
     "python/lte_reference/README.md": 620,
 }

@@ -47,7 +47,9 @@ def test_same_bytes_as_at_first(tool, long_file, stand_in, track, tmp_path, is_d
 def test_gain_by_time(tool, long_file, stand_in, tmp_path):
     plain, gain = tmp_path / "plain.json", ("--gain", "0:-20,8.05:-14")
     plain.write_text(tool("survey", long_file, *WORDS).out)
-    first, again = (json.loads(tool("survey", *words, *gain, "--json").out) for words in ((long_file, *WORDS), (plain,)))
+    first, again = (
+        json.loads(tool("survey", *words, *gain, "--json").out) for words in ((long_file, *WORDS), (plain,))
+    )
     assert first == again
     levels = {one["seconds"]: one["level"] for one in again["cells"][0]["seen"]}
     assert any(level is None for second, level in levels.items() if 8 <= second < 8.2)

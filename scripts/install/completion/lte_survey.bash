@@ -11,9 +11,15 @@ _lte_survey() {
         --at) compopt +o default 2> /dev/null; return ;;
         --channel) compopt +o default 2> /dev/null; return ;;
         --every) compopt +o default 2> /dev/null; return ;;
+        --until) compopt +o default 2> /dev/null; return ;;
+        --resume) return ;;
+        --part) compopt +o default 2> /dev/null; return ;;
+        --join) return ;;
+        --dask) compopt +o default 2> /dev/null; return ;;
         --offset) compopt +o default 2> /dev/null; return ;;
         --gain) compopt +o default 2> /dev/null; return ;;
         --jobs) compopt +o default 2> /dev/null; return ;;
+        --carriers) compopt +o default 2> /dev/null; return ;;
         --earfcn) compopt +o default 2> /dev/null; return ;;
         --track) return ;;
         --gpsd) return ;;
@@ -26,7 +32,7 @@ _lte_survey() {
         --plan) return ;;
         --clashes) compopt +o default 2> /dev/null; return ;;
         --coverage) compopt +o default 2> /dev/null; return ;;
-        *) if [[ $current == -* ]]; then choices='-h --help --form --rate --shift --carrier --at --exchanged --channel --every --offset --gain --jobs --scan --deep --earfcn --follow --wait --track --gpsd --start --geojson --pcap --html --csv-windows --kml --plan --clashes --coverage --csv --json'; else return; fi ;;
+        *) if [[ $current == -* ]]; then choices='-h --help --form --rate --shift --carrier --at --exchanged --channel --every --until --resume --so-far --part --join --dask --offset --gain --jobs --scan --carriers --deep --earfcn --follow --wait --track --gpsd --start --geojson --pcap --html --csv-windows --kml --plan --clashes --coverage --csv --json'; else return; fi ;;
     esac
     mapfile -t COMPREPLY < <(compgen -W "$choices" -- "$current")
 }
