@@ -35,7 +35,8 @@ Architecture: {architecture}
 Maintainer: {maintainer}
 Installed-Size: {size}
 Depends: {libc}python3 (>= 3.11), python3-numpy, python3-scipy
-Recommends: python3-matplotlib
+Recommends: python3-matplotlib, python3-tqdm
+Suggests: python3-distributed
 Section: hamradio
 Priority: optional
 Description: LTE cells in a radio recording, by proved programs

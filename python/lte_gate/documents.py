@@ -47,6 +47,7 @@ BUDGETS = {
     "docs/PERFORMANCE.md": 1850,
     "docs/PROOF_NOTES.md": 6350,
     "docs/RECORDINGS.md": 7200,
+    "docs/CAMPAIGNS.md": 1350,
     "scripts/README.md": 340,
     "python/lte_reference/README.md": 650,
 }

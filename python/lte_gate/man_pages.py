@@ -55,6 +55,7 @@ EXAMPLES = {
         "lte_survey drive.sigmf-meta --track drive.gpx --html drive.html --geojson drive.geojson",
         "rtl_sdr -f 796e6 -s 1.92e6 - | lte_survey - --form u8 --follow",
         "lte_survey drive.json --plan sites.csv --clashes 6 --coverage -100,5",
+        "lte_survey drive.cu8 --rate 2.4e6 --carrier 796e6 --resume drive.jsonl --json",
     ],
     "lte_picture": ["lte_picture recording.ci16 -o picture.png", "lte_picture survey.json -o map.png"],
     "lte_diff": [

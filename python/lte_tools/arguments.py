@@ -37,6 +37,7 @@ class Parser(argparse.ArgumentParser):
 
 GREATEST = 1e15  # absolute value of a number
 FASTEST = 1e10  # samples per second
+HERTZ = 1e6  # from which on the number of a carrier is its frequency
 SHORTEST = 0.001  # seconds from one window to the next
 MOST_PROCESSES = 1_024
 
@@ -129,6 +130,24 @@ def limits(text: str) -> tuple[float, float]:
     if len(parts) != 2:
         raise argparse.ArgumentTypeError(f"{text!r} is not a level and a ratio such as -100,5")
     return decibels(parts[0]), decibels(parts[1])
+
+
+def part(text: str) -> tuple[int, int]:
+    """Returns a part's number and the count of parts, as 3/40."""
+    found = re.fullmatch(r"(\d{1,6})/(\d{1,6})", text)
+    if not found or not 1 <= int(found[1]) <= int(found[2]):
+        raise argparse.ArgumentTypeError(f"{text!r} is not a part such as 3/40, from 1/40 to 40/40")
+    return int(found[1]), int(found[2])
+
+
+def carriers(text: str) -> tuple[float, ...]:
+    """Returns carriers, each as an EARFCN or as a frequency in hertz, as 1500,1550,796e6."""
+    found = tuple(positive(one) if one.strip() != "0" else 0.0 for one in text.split(","))
+    if any(one < HERTZ and one != round(one) for one in found):
+        raise argparse.ArgumentTypeError(
+            f"{text!r} is not a list of EARFCNs and of frequencies in hertz, as 1500,796e6"
+        )
+    return found
 
 
 def not_negative(text: str) -> float:

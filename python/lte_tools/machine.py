@@ -15,9 +15,11 @@ import signal
 import stat
 import subprocess
 import sys
+from types import FrameType
 from typing import Any, Callable, Iterable, NoReturn
 
 CONTROL = re.compile("[\x00-\x1f\x7f-\x9f\u200e\u200f\u2028-\u202e\u2066-\u2069]")  # with those that turn the direction
+TERMINATED = 128 + signal.SIGTERM  # status of a tool that SIGTERM ended, as a shell has it
 TOP = pathlib.Path(__file__).resolve().parent.parent.parent
 
 
@@ -35,6 +37,25 @@ class ProgramRefused(Refused):
     def __init__(self, command: str, cause: str, exit_code: int) -> None:
         super().__init__(f"{command}: {cause}")
         self.command, self.cause, self.exit_code = command, cause, exit_code
+
+    def __reduce__(self) -> tuple[type, tuple[str, str, int]]:
+        """Returns how it is made again in another process."""
+        return type(self), (self.command, self.cause, self.exit_code)
+
+
+class Stopped(KeyboardInterrupt):
+    """A signal ends the tool, by its number."""
+
+    def __init__(self, kind: int) -> None:
+        super().__init__()
+        self.kind = kind
+
+
+def stop(kind: int, _: FrameType | None) -> None:
+    """Ends the tool at a signal, which may come to all its processes, and then once more."""
+    for one in (signal.SIGINT, signal.SIGTERM):
+        signal.signal(one, signal.SIG_IGN)
+    raise Stopped(kind)
 
 
 def tool_name() -> str:
@@ -62,7 +83,8 @@ def fail(text: str, status: int = 1) -> NoReturn:
 def run(command: Callable[[], None], *packages: str, status: int = 1) -> None:
     """Runs a tool's command, which needs these Python packages, and turns its refusals into one line each, with a status."""
     check_packages(*packages, status=status)
-    signal.signal(signal.SIGINT, signal.default_int_handler)
+    signal.signal(signal.SIGINT, stop)
+    signal.signal(signal.SIGTERM, stop)
     if isinstance(sys.stdout, io.TextIOWrapper):
         sys.stdout.reconfigure(errors="surrogateescape")  # names of files that are not UTF-8
     try:
@@ -76,8 +98,9 @@ def run(command: Callable[[], None], *packages: str, status: int = 1) -> None:
         fail(f"{fault.filename or 'output'}: {fault.strerror}", status)
     except MemoryError:
         fail("out of memory: --every, or a shorter file, needs less", status)
-    except KeyboardInterrupt:
-        fail("stopped", status)
+    except KeyboardInterrupt as stopped:
+        is_term = isinstance(stopped, Stopped) and stopped.kind == signal.SIGTERM
+        fail(": ".join(["stopped", *map(str, stopped.args)]), TERMINATED if is_term else status)
 
 
 def check_packages(*packages: str, status: int = 1) -> None:

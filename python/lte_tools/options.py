@@ -16,6 +16,7 @@ from . import bands, machine, track
 from .arguments import (
     Parser,
     apart,
+    carriers,
     count,
     decibels,
     gain,
@@ -23,6 +24,8 @@ from .arguments import (
     network,
     not_negative,
     number,
+    part,
+    positive,
     processes,
     rate,
     side,
@@ -40,15 +43,18 @@ OF_SAMPLES = (
     "rate",
     "shift",
     "at",
+    "until",
+    "part",
+    "resume",
+    "join",
+    "so_far",
+    "dask",
     "exchanged",
     "channel",
     "offset",
-    "gain",
     "scan",
+    "carriers",
     "deep",
-    "track",
-    "gpsd",
-    "start",
     "every",
 )
 # options that ask for a table besides that of the cells
@@ -86,13 +92,22 @@ class FileOptions:
 class SurveyOptions(FileOptions):
     """Options of a survey: `every` in seconds, `offset` in hertz, `gain` in dB, or pairs of a second of the file and the dB
     from there on, `jobs` processes, `network` as 262-02, `clashes` in dB, `coverage` a level in the survey's unit and a
-    ratio in dB, `grid` metres of a square's side, `pollution` a number of cells."""
+    ratio in dB, `grid` metres of a square's side, `pollution` a number of cells. `until`
+    is a second, `part` a number from 1 and the count of parts, `resume` and `join` are journals, `dask` is a scheduler's
+    address."""
 
     every: float = WINDOW
+    until: float | None = None
+    part: tuple[int, int] | None = None
+    resume: pathlib.Path | None = None
+    join: tuple[pathlib.Path, ...] = ()
+    so_far: bool = False
+    dask: str | None = None
     offset: float | None = None
     gain: Gain = None
     jobs: int = 1
     scan: bool = False
+    carriers: tuple[float, ...] = ()
     deep: bool = False
     earfcn: int | None = None
     follow: bool = False
@@ -123,6 +138,16 @@ class SurveyOptions(FileOptions):
         return self.track is not None or self.gpsd is not None
 
     @property
+    def is_scan(self) -> bool:
+        """Whether several frequencies are looked at."""
+        return self.scan or bool(self.carriers)
+
+    @property
+    def is_kept(self) -> bool:
+        """Whether a journal has answers, or gets them."""
+        return self.resume is not None or bool(self.join)
+
+    @property
     def is_survey(self) -> bool:
         """Whether the file is a survey that was made before, by its name."""
         return self.file.suffix == ".json"
@@ -147,6 +172,8 @@ def options_of(kind: type[T], args: argparse.Namespace) -> T:
     """Returns the options that arguments name; the others keep their defaults."""
     names = {one.name for one in dataclasses.fields(kind)}
     found = {key: value for key, value in vars(args).items() if key in names and value is not None}
+    if "join" in found:
+        found["join"] = tuple(found["join"])
     if isinstance(found["file"], list):
         first, *further = found["file"]
         found |= {"file": first, "further": tuple(further)}
@@ -206,6 +233,28 @@ def survey_parser(text: str | None) -> argparse.ArgumentParser:
     add_file_arguments(parser, nargs="+", help="a file, or several that are one drive")
     add: Any = parser.add_argument
     add_window_arguments(parser)
+    add("--until", type=positive, metavar="S", help="the second at which to end (the file's end)")
+    add(
+        "--resume",
+        type=pathlib.Path,
+        metavar="FILE",
+        help="a journal: what it has is not asked again, the rest is added",
+    )
+    add(
+        "--so-far",
+        action="store_true",
+        help="the survey of what the journal of --resume has, without further questions",
+    )
+    add("--part", type=part, metavar="K/N", help="the windows of part K of N alone, as for a job array")
+    add(
+        "--join",
+        type=pathlib.Path,
+        metavar="FILE",
+        nargs="+",
+        help="journals of parts: what they have is not asked again",
+    )
+    add("--dask", metavar="ADDRESS", help="ask the workers of this Dask scheduler, as tcp://10.0.0.1:8786")
+    add("--carriers", type=carriers, metavar="LIST", help="scan these alone: EARFCNs or hertz, as 1500,1550,796e6")
     add(
         "--follow",
         action="store_true",
@@ -266,9 +315,12 @@ def checked_survey(options: SurveyOptions, has_every: bool = True) -> SurveyOpti
     files that cannot be written."""
     if options.earfcn is not None:
         options = dataclasses.replace(options, carrier=carrier_of(options))
-    if options.scan and not has_every:
+    if options.carriers:
+        options = dataclasses.replace(options, carriers=tuple(map(hertz_of, options.carriers)))
+    if options.is_scan and not has_every:
         options = dataclasses.replace(options, every=EVERY_OF_SCAN)
     check_input(options)
+    check_campaign(options)
     check_tables(options)
     for name in ("geojson", "kml"):
         if getattr(options, name) and not options.has_places and not options.is_survey:
@@ -281,6 +333,14 @@ def checked_survey(options: SurveyOptions, has_every: bool = True) -> SurveyOpti
     if options.html:
         machine.check_packages("matplotlib")
     return checked(options)
+
+
+def hertz_of(carrier: float) -> float:
+    """Returns the frequency in hertz of a carrier that --carriers names, by its number or its frequency."""
+    frequency = carrier if carrier >= LOWEST else bands.frequency_of(round(carrier))
+    if frequency is None:
+        raise Refused(f"--carriers {carrier:g}: no downlink of an FDD band has it")
+    return frequency
 
 
 def carrier_of(options: SurveyOptions) -> float:
@@ -297,15 +357,40 @@ def check_input(options: SurveyOptions) -> None:
     """Refuses options that are only for standard input, or only for a file."""
     if options.further and pathlib.Path("-") in options.files:
         raise Refused("-: standard input is not one of several files")
-    if options.deep and options.scan:
-        raise Refused("--deep and --scan: one of them")
+    if options.deep and options.is_scan:
+        raise Refused("--deep and --scan or --carriers: one of them")
+    if options.scan and options.carriers:
+        raise Refused("--scan and --carriers: one of them")
     if options.is_input:
-        if options.scan:
-            raise Refused("-: --scan needs a file")
+        if options.is_scan:
+            raise Refused(f"-: --{'scan' if options.scan else 'carriers'} needs a file")
         if options.wait and options.has_places and options.start is None:
             raise Refused("-: with --wait the samples come later than they were received: --start says when that was")
     elif options.follow or options.wait:
         raise Refused(f"{options.file}: --{'follow' if options.follow else 'wait'} is for -, standard input")
+
+
+def check_campaign(options: SurveyOptions) -> None:
+    """Refuses options of journals, parts and Dask that do not fit the others."""
+    if options.is_input:
+        for name in ("until", "part", "resume", "join", "dask"):
+            if getattr(options, name):
+                raise Refused(f"-: --{name} needs a file")
+    if options.until is not None and options.until <= options.at:
+        raise Refused(f"--until {options.until:g}: not after --at {options.at:g}")
+    if options.so_far and options.resume is None:
+        raise Refused("--so-far: --resume FILE says which journal")
+    if options.so_far and (options.join or options.part):
+        raise Refused("--so-far: without --join and --part")
+    if options.join and options.part:
+        raise Refused("--join and --part: a part has a journal of its own, by --resume")
+    for one in options.join:
+        if options.resume and one.exists() and options.resume.exists() and one.samefile(options.resume):
+            raise Refused(f"{one}: --resume and --join have it both")
+    if options.resume and not options.so_far:
+        machine.check_place(options.resume, [*options.files, options.track, options.gpsd, options.plan])
+    if options.dask is not None:
+        machine.check_packages("distributed")
 
 
 def check_tables(options: SurveyOptions) -> None:
@@ -320,5 +405,3 @@ def check_tables(options: SurveyOptions) -> None:
         for name in OF_SAMPLES:
             if getattr(options, name) != getattr(defaults, name):
                 raise Refused(f"{options.file}: a survey, in which --{name} changes nothing")
-        if options.carrier and options.earfcn is None:
-            raise Refused(f"{options.file}: a survey, in which --carrier changes nothing")

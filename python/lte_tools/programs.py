@@ -34,6 +34,7 @@ from .rules import RULES, Rule
 from .survey_data import Survey
 
 if TYPE_CHECKING:
+    from .engine import Map
     from .radio import Complex
 
 Samples = Union[bytes, str, "os.PathLike[str]", "Complex"]
@@ -353,8 +354,11 @@ def transmit(
     return Transmission(done.stdout)
 
 
-def survey(path: str | os.PathLike[str], **keys: Any) -> Survey:
+def survey(path: str | os.PathLike[str], *, map: Map | None = None, **keys: Any) -> Survey:
     """Returns the survey of a file, as `lte_survey` makes it, or the one that a file of JSON has.
+
+    `map` answers for all windows in place of the processes of this machine: a function like the built-in one, which returns
+    the answers in the order of its second argument, such as that of a `concurrent.futures.Executor` or a `joblib.Parallel`.
 
     `keys` are the fields of `lte_tools.SurveyOptions`: rate, form, shift, carrier, at, every, offset, gain, jobs, scan,
     track, start and others, in the units that it names; `further` are the other files of a drive. Files that they name
@@ -362,27 +366,30 @@ def survey(path: str | os.PathLike[str], **keys: Any) -> Survey:
     """
     from . import survey_outputs
 
-    keys["further"] = tuple(map(pathlib.Path, keys.get("further", ())))
-    for key in ("track", "gpsd", "geojson", "kml", "csv_windows", "pcap", "html", "plan"):
+    for key in ("further", "join"):
+        keys[key] = tuple(pathlib.Path(one) for one in keys.get(key, ()))
+    for key in ("track", "gpsd", "geojson", "kml", "csv_windows", "pcap", "html", "plan", "resume"):
         if isinstance(keys.get(key), str):
             keys[key] = pathlib.Path(keys[key])
     given = options.checked_survey(options.SurveyOptions(pathlib.Path(path), **keys), "every" in keys)
     planned = survey_outputs.planned_of(given)
-    found = surveyed(given)
+    found = surveyed(given, map)
     survey_outputs.write(given, found)
     survey_outputs.write_page(given, found, planned)
     return found
 
 
-def surveyed(given: options.SurveyOptions) -> Survey:
+def surveyed(given: options.SurveyOptions, mapped: Map | None = None) -> Survey:
     """Returns the survey of a file of samples, or the one that a file of JSON has, with the cells of one network alone if
-    that is asked."""
+    that is asked; `mapped` is a function like `map`."""
     if given.is_survey:
-        found = Survey.read(given.file)
-    else:
-        from . import surveying
+        from . import asked_again
 
-        found = surveying.survey_of(given)
+        found = asked_again.again(given, Survey.read(given.file))
+    else:
+        from . import campaign
+
+        found = campaign.survey_of(given, mapped)
     return found if given.network is None else of_network(found, given.network)
 
 

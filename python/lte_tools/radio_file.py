@@ -123,19 +123,21 @@ class RadioFile:
         """Returns how many hertz the cell is above the centre at a sample."""
         return next((one.shift for one in self.stretches if one.first <= sample < one.end), self.shift)
 
-    def starts(self, at: float, length: float, every: float) -> list[tuple[float, float]]:
-        """Returns the seconds at which windows begin and how long they are: three frames or more, within one stretch."""
+    def starts(self, at: float, length: float, every: float, until: float | None = None) -> list[tuple[float, float]]:
+        """Returns the seconds at which windows begin and how long they are: three frames or more, within one stretch, and up
+        to the second `until`."""
         least = LEAST / radio.RATE
         if at + least > self.seconds + 1e-9:
             raise Refused(f"{self.path}: {max(0, self.seconds - at):.4f} s from second {at:g} on, and 0.03 are needed")
         ends = [(one.first / self.rate, one.end / self.rate) for one in self.stretches] or [(0, self.seconds)]
         found: list[tuple[float, float]] = []
         for first, end in ends:
-            begin = max(at, first)
+            begin, end = max(at, first), end if until is None else min(end, until)
             count = int((end - least - begin) / every + 1e-9) + 1 if begin + least <= end + 1e-9 else 0
             found += [(begin + i * every, min(length, end - begin - i * every)) for i in range(count)]
         if not found:
-            raise Refused(f"{self.path}: no stretch of 0.03 s from second {at:g} on")
+            up_to = "on" if until is None else f"to {until:g}"
+            raise Refused(f"{self.path}: no stretch of 0.03 s from second {at:g} {up_to}")
         return found
 
     def check_holds(self, hertz: float, name: str) -> None:

@@ -15,7 +15,7 @@ from typing import TYPE_CHECKING, Any, NamedTuple, Sequence
 import numpy as np
 from scipy import fft
 
-from . import bands, hints, levels, radio, radio_file, recorded, sources, wide
+from . import bands, hints, levels, parts, radio, radio_file, recorded, sources, wide
 from .cells import SeenCell, joined
 from .continuity import Jump, as_one
 from .doubts import doubts_of
@@ -28,12 +28,14 @@ from .survey_data import Scan, Spectrum, Survey, SurveyCell
 from .to_ci16 import ratio_of
 
 if TYPE_CHECKING:
-    from .surveying import Ask
+    from .asking import Ask
+    from .journal import Journal
 
 SAME = 2_000  # hertz by which one cell may seem to stand elsewhere, by the raster's other frequency
 HELD = 8  # bytes of a sample in memory
 SPECTRA, BRIEF, FLOOR = 4, 0.05, 1e-20  # windows of a spectrum, seconds of each, and the least power of it
 TOGETHER, EACH = 8, 4  # least frequencies that a process takes from one transform, and how often each has its turn
+QUESTIONS = 64  # of a survey whose answers are kept, at least, as far as TOGETHER allows
 
 
 def centre_of(file: RadioFile) -> float:
@@ -48,6 +50,19 @@ def raster(file: RadioFile) -> list[float]:
     if not numbers:
         raise Refused(f"{file.path}: no frequency of the raster has 540 kHz of it on either side")
     return [bands.RASTER * n - centre for n in numbers]
+
+
+def shifts_of(options: SurveyOptions, file: RadioFile) -> list[float]:
+    """Returns how far above the centre each frequency to look at is, in hertz."""
+    if not options.carriers:
+        return raster(file)
+    centre = centre_of(file)
+    if not centre:
+        raise Refused(f"{file.path}: the file's centre is not known: with --carriers, --carrier HZ says it")
+    shifts = sorted({carrier - centre for carrier in options.carriers})
+    for shift in shifts:
+        file.check_holds(shift, f"{centre + shift:,.0f} Hz")
+    return shifts
 
 
 # ---- one window
@@ -152,16 +167,56 @@ def megahertz(file: RadioFile, shift: float) -> str:
 def starts_of(options: SurveyOptions, file: RadioFile) -> list[tuple[float, float]]:
     """Returns where windows begin, and how long they are: in the captures of one centre."""
     stretches = tuple(one for one in file.stretches if one.shift == file.shift)
-    return dataclasses.replace(file, stretches=stretches).starts(options.at, WINDOW, options.every)
+    return dataclasses.replace(file, stretches=stretches).starts(options.at, WINDOW, options.every, options.until)
 
 
 def scanned(options: SurveyOptions, file: RadioFile, ask: Ask) -> Survey:
     """Returns the survey of all frequencies; `ask` answers for many windows."""
-    shifts, starts = raster(file), starts_of(options, file)
-    together = max(TOGETHER, math.ceil(len(shifts) * len(starts) / (EACH * options.jobs)))
-    parts = [shifts[i : i + together] for i in range(0, len(shifts), together)]
-    looks = [Look(file, *start, part, options.offset) for start in starts for part in parts]
+    starts = starts_of(options, file)
+    own = parts.own(options.part, len(starts))
+    looks = looks_of(options, file, starts)
+    some = starts if own is None else starts[own.start : own.stop]
+    looks = [look for look in looks if (look.start, look.length) in set(some)]
+    return survey_of_looks(options, file, ask, some, list(zip(looks, ask("scan", seen_at_each, looks))))
+
+
+def looks_of(options: SurveyOptions, file: RadioFile, starts: Sequence[tuple[float, float]]) -> list[Look]:
+    """Returns what is asked of windows: some frequencies at a time, the same whoever asks where answers are kept."""
+    shifts = shifts_of(options, file)
+    together = math.ceil(len(shifts) * len(starts) / (EACH * options.jobs))
+    if options.is_kept or options.dask is not None:
+        together = math.ceil(len(shifts) / math.ceil(QUESTIONS / len(starts)))
+    together = max(TOGETHER, together)
+    some = [shifts[i : i + together] for i in range(0, len(shifts), together)]
+    return [Look(file, *start, part, options.offset) for start in starts for part in some]
+
+
+def so_far(options: SurveyOptions, file: RadioFile, kept: Journal, ask: Ask) -> tuple[Survey | None, list[float]]:
+    """Returns the survey of those windows of which a journal has all frequencies, None if there is none, and when they
+    begin; `ask` answers by the journal alone."""
+    starts = starts_of(options, file)
+    looks = looks_of(options, file, starts)
     found = list(zip(looks, ask("scan", seen_at_each, looks)))
+    is_kept = [kept.has(kept.key_of("scan", seen_at_each, look)[0]) for look in looks]
+    open_ = {look.start for look, is_one in zip(looks, is_kept) if not is_one}
+    done = [one for one in starts if one[0] not in open_]
+    found = [pair for pair in found if pair[0].start not in open_]
+    hint = f"so far: {len(done):,} of {len(starts):,} windows"
+    survey = survey_of_looks(options, file, ask, done, found, hint) if done else None
+    return survey, [start for start, _ in done]
+
+
+def survey_of_looks(
+    options: SurveyOptions,
+    file: RadioFile,
+    ask: Ask,
+    starts: Sequence[tuple[float, float]],
+    found: Sequence[tuple[Look, list[list[Sighting]] | None]],
+    hint: str | None = None,
+) -> Survey:
+    """Returns the survey of windows and what is seen in each at each frequency; `hint` is in place of what may be wrong where
+    no cell is sure."""
+    shifts = shifts_of(options, file)
     spoiled = [round(start, 6) for start in dict.fromkeys(look.start for look, one in found if one is None)]
     seen_by_shift: dict[float, list[Sighting]] = {shift: [] for shift in shifts}
     for look, one in found:
@@ -174,7 +229,8 @@ def scanned(options: SurveyOptions, file: RadioFile, ask: Ask) -> Survey:
     files = [dataclasses.replace(file, shift=shift, stretches=()) for shift, _ in kept]
     wide.inform(ask, [cell for _, cell in kept], files)
     cells = tuple(cell_at(options, file, shift, cell, by_shift) for shift, cell in kept)
-    hint = None if any(not cell.chance for cell in cells) else why_none(ask, found, by_shift)
+    if hint is None and all(cell.chance for cell in cells):
+        hint = why_none(ask, found, by_shift)
     jumps = different([jump for _, own in whole.values() for jump in own])
     survey = survey_of_cells(options, file, [], Looked(len(starts), spoiled, jumps=jumps), hint)
     spectrum = spectrum_of(ask, file, starts)

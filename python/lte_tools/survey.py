@@ -4,7 +4,12 @@ survey.py PART.. [--rate R] [--json]
 survey.py FILE --track TRACK [--start TIME] [--html OUT] [--geojson OUT]
 survey.py FILE --pcap OUT.pcap
 survey.py FILE --scan [--carrier CENTRE]
+survey.py FILE --carriers LIST [--carrier CENTRE]
 survey.py FILE --deep
+survey.py FILE --resume JOURNAL [--so-far]
+survey.py FILE --part K/N --resume JOURNAL
+survey.py FILE --join JOURNAL..
+survey.py SURVEY.json [--track TRACK] [--start TIME] [--gain DB] [--carrier HZ]
 survey.py SURVEY.json [--plan CSV] [--clashes DB] [--coverage LEVEL,RATIO] [--csv-windows OUT] [--kml OUT]
 survey.py SURVEY.json [--servers] [--grid M] [--pollution N] [--neighbours] [--classes]
 rtl_sdr -f 796e6 -s 1.92e6 - | survey.py - --form u8 --rate 1.92e6 --follow
@@ -33,14 +38,18 @@ the blocks of MIB and SIB1 for Wireshark (pcap.py). --deep adds cells far below 
 carrier of the 100 kHz raster in the file. Standard input (-) is looked at as it comes, until it ends or a signal comes;
 a radio may begin again. With --follow a named pipe waits for its next writer.
 
+--resume keeps a journal of all answers: a survey that was stopped goes on there, and --so-far prints what is done. --part
+looks at some windows for a job array, and --join makes one survey of the journals of all parts. --dask asks the workers of
+a Dask scheduler. docs/CAMPAIGNS.md has examples.
+
 Further tables: --plan compares with a list of planned cells, --clashes lists for each cell the others that are nearly as
 strong in the same windows, --coverage sums up how much of the way the strongest cell covers. --servers has the best server
 along the way, --grid in squares of ground, --pollution the places with several cells within 6 dB of it, --neighbours who is
 heard with whom, --classes how much of the way each class of RSRP, RSRQ and SINR has. --html has these tables too.
 --csv-windows, --geojson and --kml have windows without a cell too. In place of samples, FILE may be a survey that --json
-wrote (.json).
+wrote (.json), which takes --track, --gpsd, --start, --gain and --carrier too.
 
-Debian: python3-numpy, python3-scipy; for --html python3-matplotlib. Needs lte_cli and lte_tune (README, "Build").
+Debian: python3-numpy, python3-scipy; for --html python3-matplotlib, for --dask python3-distributed. Needs lte_cli and lte_tune (README, "Build").
 """
 from __future__ import annotations
 

@@ -4,19 +4,17 @@ Debian: python3-numpy, python3-scipy. Needs lte_cli and lte_tune.
 """
 from __future__ import annotations
 
-import contextlib
 import dataclasses
 import functools
-import multiprocessing
-import signal
-import sys
-from typing import Any, Callable, Iterator, Sequence, TypeVar
+from typing import Sequence
 
 import numpy as np
 
-from . import hints, identities, levels, live, machine, places, radio_file, scan, wide
+from . import asking, hints, identities, levels, parts, wide
+from .asking import Ask
 from .cells import SeenCell, joined
 from .continuity import as_one
+from .journal import Journal
 from .options import SurveyOptions
 from .radio_file import RadioFile
 from .sightings import WINDOW, Sighting, Task, energy, offset_in, sightings
@@ -27,29 +25,33 @@ TELL_EVERY = 10  # seconds from one window whose offset is asked for to the next
 STEEP = 350  # hertz between two windows with offsets above which one between them is asked too
 TRIED = 4  # windows that are tried with I and Q exchanged
 
-T = TypeVar("T")
-R = TypeVar("R")
-Ask = Callable[[str, Callable[[Any], Any], Sequence[Any]], "list[Any]"]
-
 
 # ---- the offset along the file
 
 
-def offsets_along(ask: Ask, tasks: Sequence[Task]) -> list[tuple[int, float]]:
-    """Returns pairs of a window's number and its offset, of the windows that were asked and have one."""
+def offsets_along(ask: Ask, tasks: Sequence[Task], own: range | None = None) -> list[tuple[int, float]]:
+    """Returns pairs of a window's number and its offset, of the windows that were asked and have one; with `own`, those from
+    which the offsets of these windows are the same as if all were asked."""
     strength = ask("level", energy, tasks)
     by_strength = sorted(range(len(tasks)), key=strength.__getitem__, reverse=True)
     stride = max(1, round(TELL_EVERY / max(tasks[1].start - tasks[0].start, 1e-3))) if tasks[1:] else 1
-    wanted, asked = {by_strength[0], *range(0, len(tasks), stride), len(tasks) - 1}, set[int]()
-    known: dict[int, float] = {}
-    while wanted:
-        order = sorted(wanted)
-        asked |= wanted
-        found = ask("offset", offset_in, [tasks[i] for i in order])
-        known |= {i: offset for i, offset in zip(order, found) if offset is not None}
-        wanted = between(known) if known else set(by_strength[:16])
-        wanted -= asked
-    return agreed(sorted(known.items()))
+    some = sorted({by_strength[0], *range(0, len(tasks), stride), len(tasks) - 1})
+    asked, known = set[int](), dict[int, float]()
+    beside = parts.BESIDE
+    while True:
+        first, last = (0, len(some)) if own is None else parts.around(own, some, beside)
+        wanted = set(some[first:last]) - asked
+        while wanted:
+            order = sorted(wanted)
+            asked |= wanted
+            found = ask("offset", offset_in, [tasks[i] for i in order])
+            known |= {i: offset for i, offset in zip(order, found) if offset is not None}
+            wanted = between(known) if known else set(by_strength[:16]) if last - first == len(some) else set()
+            wanted -= asked
+        points = sorted(known.items())
+        if own is None or parts.is_enough(own, [i for i, _ in agreed(points)], first == 0, last == len(some)):
+            return agreed(points)
+        beside *= 2
 
 
 def between(known: dict[int, float]) -> set[int]:
@@ -72,13 +74,30 @@ def agreed(points: list[tuple[int, float]]) -> list[tuple[int, float]]:
 
 def surveyed(options: SurveyOptions, file: RadioFile, ask: Ask) -> Survey:
     """Returns the survey of a file's windows."""
-    tasks = [Task(file, *window) for window in file.starts(options.at, WINDOW, options.every)]
-    points = [(0, options.offset)] if options.offset is not None else offsets_along(ask, tasks)
+    tasks = [Task(file, *window) for window in windows_of(options, file)]
+    own = parts.own(options.part, len(tasks))
+    points = [(0, options.offset)] if options.offset is not None else offsets_along(ask, tasks, own)
     offsets = np.zeros(len(tasks))
     if points:
         offsets = np.interp(range(len(tasks)), [i for i, _ in points], [offset for _, offset in points])
+    asked = [(round(tasks[i].start, 6), round(offset, 1)) for i, offset in points]
     tasks = [task.with_offset(float(offset)) for task, offset in zip(tasks, offsets)]
+    tasks = tasks if own is None else tasks[own.start : own.stop]
     looked = ask("cells", functools.partial(levels.looked_at, is_deep=options.deep), tasks)
+    return survey_of_windows(options, file, ask, tasks, looked, asked)
+
+
+def survey_of_windows(
+    options: SurveyOptions,
+    file: RadioFile,
+    ask: Ask,
+    tasks: Sequence[Task],
+    looked: Sequence[levels.InWindow],
+    asked: Sequence[tuple[float, float]],
+    hint: str | None = None,
+) -> Survey:
+    """Returns the survey of windows and what is in each; `asked` are the seconds and offsets of some, `hint` is in place of
+    what may be wrong where no cell is sure."""
     found = [one.listed for one in looked]
     lines = joined(flat(found))
     wide.inform(ask, lines)
@@ -88,11 +107,33 @@ def surveyed(options: SurveyOptions, file: RadioFile, ask: Ask) -> Survey:
     known = [one.power for one in looked if one.power is not None]
     powers, steps = levels.even(cells, known, options.gain, levels.rounding_of(file), others)
     is_none = all(cell.is_chance(cells) for cell in cells)
-    hint = why_none(ask, tasks, found, cells) if is_none else None if options.deep else hints.of_cancelling(cells, file)
+    if hint is None and is_none:
+        hint = why_none(ask, tasks, found, cells)
+    elif hint is None and not options.deep:
+        hint = hints.of_cancelling(cells, file)
     spoiled = [round(task.start, 6) for task, one in zip(tasks, found) if one is None]
-    asked = [(round(tasks[i].start, 6), round(offset, 1)) for i, offset in points]
     whole = Looked(len(tasks), spoiled, asked, jumps, powers, steps, others if options.deep else None)
     return survey_of_cells(options, file, cells, whole, hint)
+
+
+def so_far(
+    options: SurveyOptions, file: RadioFile, kept: Journal, starts: Sequence[float]
+) -> tuple[Survey | None, list[float]]:
+    """Returns the survey of those windows, of some that begin at these seconds, whose cells a journal has, None if there is
+    none, and when they begin."""
+    known = {task.start: (task, one) for task, one in kept.of_phase("cells")}
+    done = [start for start in starts if start in known]
+    offsets = {task.start: offset for task, offset in kept.of_phase("offset") if offset is not None}
+    asked = [(round(start, 6), round(offset, 1)) for start, offset in sorted(offsets.items())]
+    tasks, looked = [known[start][0] for start in done], [known[start][1] for start in done]
+    hint = f"so far: {len(done):,} of {len(starts):,} windows"
+    survey = survey_of_windows(options, file, asking.Kept(kept), tasks, looked, asked, hint) if done else None
+    return survey, done
+
+
+def windows_of(options: SurveyOptions, file: RadioFile) -> list[tuple[float, float]]:
+    """Returns where all windows begin, and how long they are."""
+    return file.starts(options.at, WINDOW, options.every, options.until)
 
 
 def flat(found: Sequence[list[Sighting] | None]) -> list[Sighting]:
@@ -126,52 +167,3 @@ def why_none(ask: Ask, tasks: Sequence[Task], found: Sequence[list[Sighting] | N
         carriers,
         reason,
     )
-
-
-@contextlib.contextmanager
-def asking(jobs: int) -> Iterator[Ask]:
-    """Gives a function over many windows, by `jobs` processes, with a bar on standard error where that is a terminal."""
-    if jobs == 1:
-        yield functools.partial(ask_all, map)
-        return
-    with multiprocessing.Pool(jobs, signal.signal, (signal.SIGINT, signal.SIG_IGN)) as pool:
-        yield functools.partial(ask_all, pool.imap)
-
-
-def ask_all(imap: Any, name: str, function: Callable[[T], R], tasks: Sequence[T]) -> list[R]:
-    """Returns a function's answer for each task."""
-    found: list[R] = []
-    for one in imap(function, tasks):
-        found.append(one)
-        if sys.stderr.isatty():
-            done = 30 * len(found) // len(tasks)
-            bar = f"\r{name:7} [{'#' * done}{'.' * (30 - done)}] {len(found)} of {len(tasks)} windows"
-            print(bar, end="\r" + " " * len(bar) + "\r" if len(found) == len(tasks) else "", file=sys.stderr)
-    return found
-
-
-def questions_of(options: SurveyOptions, file: RadioFile) -> int:
-    """Returns how many questions at most are asked at once: one for each window, in a scan one for each of its frequencies
-    too."""
-    if options.scan:
-        return len(scan.starts_of(options, file)) * len(scan.raster(file))
-    return len(file.starts(options.at, WINDOW, options.every))
-
-
-def survey_of(options: SurveyOptions) -> Survey:
-    """Returns the survey that options ask for."""
-    file = live.opened(options) if options.is_input else radio_file.opened(options)
-    file.check_holds(file.shift + (options.offset or 0), f"an offset of {options.offset or 0:,.0f} Hz")
-    for name in ("lte_cli", "lte_tune"):
-        machine.program(name)
-    if options.is_input:
-        return live.survey(options, file)
-    file = places.begun(file, options.start)
-    track = places.track_of(options, file)
-    options = dataclasses.replace(options, jobs=min(options.jobs, questions_of(options, file)))
-    with asking(options.jobs) as ask:
-        survey = scan.scanned(options, file, ask) if options.scan else surveyed(options, file, ask)
-    if track:
-        windows = scan.starts_of(options, file) if options.scan else file.starts(options.at, WINDOW, options.every)
-        survey = places.with_places(survey, file, track, [start for start, _ in windows])
-    return survey

@@ -22,7 +22,7 @@ from .rules import LONG_PREFIX, RULES, Rule
 from .sightings import Sighting, Task, distance, epoch_of
 
 if TYPE_CHECKING:
-    from .surveying import Ask
+    from .asking import Ask
 
 WINDOWS = 3  # of a cell that are asked
 PART = 0.06  # seconds of a window: at least five frames, two of them with SIB1

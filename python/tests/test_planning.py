@@ -631,9 +631,7 @@ def test_one_table_as_csv(tool, stored, made):
     [
         (["--clashes", "5", "--coverage", "-62,10", "--csv"], "--csv writes one table: --clashes or --coverage"),
         (["--rate", "2e6"], "a survey, in which --rate changes nothing"),
-        (["--carrier", "796e6"], "a survey, in which --carrier changes nothing"),
         (["--every", "2"], "a survey, in which --every changes nothing"),
-        (["--gpsd", "places"], "a survey, in which --gpsd changes nothing"),
         (["other.json"], "a survey (.json) is not one of several files"),
         (["--coverage", "5"], "is not a level and a ratio"),
         (["--coverage", "5,x"], "'x' is not a number"),

@@ -15,6 +15,12 @@ _lte_survey() {
         --gain) compopt +o default 2> /dev/null; return ;;
         --jobs) compopt +o default 2> /dev/null; return ;;
         --earfcn) compopt +o default 2> /dev/null; return ;;
+        --until) compopt +o default 2> /dev/null; return ;;
+        --resume) return ;;
+        --part) compopt +o default 2> /dev/null; return ;;
+        --join) return ;;
+        --dask) compopt +o default 2> /dev/null; return ;;
+        --carriers) compopt +o default 2> /dev/null; return ;;
         --track) return ;;
         --gpsd) return ;;
         --start) compopt +o default 2> /dev/null; return ;;
@@ -29,7 +35,7 @@ _lte_survey() {
         --coverage) compopt +o default 2> /dev/null; return ;;
         --grid) compopt +o default 2> /dev/null; return ;;
         --pollution) compopt +o default 2> /dev/null; return ;;
-        *) if [[ $current == -* ]]; then choices='-h --help --version --form --format --rate --shift --carrier --at --exchanged --channel --every --offset --gain --jobs --scan --deep --earfcn --follow --wait --track --gpsd --start --geojson --pcap --html --csv-windows --kml --plan --network --clashes --coverage --servers --grid --pollution --neighbours --classes --csv --json'; else return; fi ;;
+        *) if [[ $current == -* ]]; then choices='-h --help --version --form --format --rate --shift --carrier --at --exchanged --channel --every --offset --gain --jobs --scan --deep --earfcn --until --resume --so-far --part --join --dask --carriers --follow --wait --track --gpsd --start --geojson --pcap --html --csv-windows --kml --plan --network --clashes --coverage --servers --grid --pollution --neighbours --classes --csv --json'; else return; fi ;;
     esac
     mapfile -t COMPREPLY < <(compgen -W "$choices" -- "$current")
 }
