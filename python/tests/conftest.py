@@ -57,6 +57,7 @@ CELL = {
     },
 }
 WIDE_RATE = 7_680_000  # samples per second
+SECONDS, RATE, WINDOW = 24, 1_200_000, 0.17  # of the long file
 FULL = {"u8": (127.5, 127.5, "u1"), "s8": (0, 128, "i1"), "s16": (0, 32_768, "<i2"), "f32": (0, 1, "<f4")}
 
 
@@ -213,3 +214,38 @@ def survey_json():
 @pytest.fixture(scope="session", autouse=True)
 def one_thread():
     os.environ.setdefault("OMP_NUM_THREADS", "1")
+
+
+@pytest.fixture(scope="session")
+def stand_ins(tmp_path_factory):
+    """The programs of stand_in_programs.py under the names of lte_cli and lte_tune, by the variables that name them."""
+    found = {}
+    for name in ("lte_cli", "lte_tune"):
+        path = tmp_path_factory.mktemp("stand_in") / name
+        path.write_text(f'#!/bin/sh\nexec {sys.executable} -E -S {HERE / "stand_in_programs.py"} {name} "$@"\n')
+        path.chmod(0o755)
+        found[name.upper()] = str(path)
+    return found
+
+
+@pytest.fixture
+def stand_in(stand_ins, tmp_path, monkeypatch):
+    """Puts these programs in the place of lte_cli and lte_tune; returns the file that counts their answers."""
+    for name, path in stand_ins.items():
+        monkeypatch.setenv(name, path)
+    count = tmp_path / "count"
+    monkeypatch.setenv("STAND_IN_COUNT", str(count))
+    return count
+
+
+@pytest.fixture(scope="session")
+def long_file(tmp_path_factory):
+    """A file of 24 seconds with a noise in each window of a survey with `--every 1`, and nothing between."""
+    path, draw = tmp_path_factory.mktemp("long") / "long.cu8", np.random.default_rng(1)
+    with path.open("wb") as file:
+        for second in range(SECONDS):
+            file.seek(2 * RATE * second)
+            noise = draw.normal(127.5, 20 + second % 7, round(2 * RATE * WINDOW))
+            file.write(np.clip(np.round(noise), 0, 255).astype("u1").tobytes())
+        file.truncate(2 * RATE * SECONDS)
+    return path

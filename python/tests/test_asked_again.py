@@ -6,7 +6,6 @@ import json
 import pytest
 
 from tests.conftest import as_radio, is_one_line
-from tests.test_campaign import long_file, stand_in, stand_ins  # noqa: F401
 
 WORDS = ("--rate", "1.2e6", "--every", "4", "--offset", "0", "--jobs", "1", "--json")
 LATER = ("--start", "2026-05-01T07:30:00.25Z", "--carrier", "796e6")

@@ -10,7 +10,6 @@ import numpy as np
 import pytest
 
 from tests.conftest import HERE, TOP, needs
-from tests.test_campaign import stand_in, stand_ins  # noqa: F401
 
 PAGE = TOP / "docs/CAMPAIGNS.md"
 OUTPUT = "lte_survey: cells 412 of 3,529 windows"  # begins a block that is an output
@@ -29,7 +28,7 @@ def blocks():
 
 
 @pytest.fixture
-def folder(stand_in, tmp_path, monkeypatch):  # noqa: F811
+def folder(stand_in, tmp_path, monkeypatch):
     """A folder with drive.cu8 of 1.5 s and its track, and commands lte_survey and sbatch."""
     draw = np.random.default_rng(3)
     noise = np.clip(np.round(draw.normal(127.5, 20, round(2 * 2.4e6 * 1.5))), 0, 255)
