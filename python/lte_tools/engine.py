@@ -18,7 +18,6 @@ import traceback
 from multiprocessing import connection
 from typing import Any, Callable, Iterable, Iterator, Sequence, Tuple
 
-from . import machine
 from .machine import Refused
 
 Function = Callable[[Any], Any]
@@ -208,9 +207,3 @@ def by_dask(client: Any, function: Function, tasks: Sequence[Any]) -> Answered:
             raise Refused(ENDED) from None
         except OSError as fault:
             raise fault if fault.filename else Refused(ENDED) from None
-
-
-def check_dask(address: str | None) -> None:
-    """Refuses Dask if its package is missing."""
-    if address is not None:
-        machine.check_packages("distributed")
