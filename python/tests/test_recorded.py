@@ -93,7 +93,7 @@ def view_of(seen=None, hits=(), lines=(), supports=(), carrier=0, offset=None):
 def test_names_of_hits():
     """Hits of a listed cell with the extended prefix, which the rule of the normal one reads wrong, and others."""
     line = answers.Cell(4_000, "n6", 0, "normal", 200, 1, "one", 5, 0, no_sib1="long-prefix", rule="long-prefix")
-    support = answers.Evidence(4_000, (), 0, 0, 1, 200, "000000", 1, 250, 0, 1, 5, None, 137, 1, ())
+    support = answers.Evidence(4_000, (), 0, 0, 1, 200, "000000", 1, 250, 0, 1, 0, 5, None, 137, 1, ())
     hits = [
         hit(4_000 + 832, 488, 4_000),
         hit(4_000 + 10_432 + 2, 257, 4_002),

@@ -301,7 +301,7 @@ def test_lists_from_python(recording, sent):
     assert lte_tools.search(recording.read_bytes()).items == found.items
     assert [cell.identity for cell in lte_tools.search(sent)] == [217]
     support = lte_tools.evidence(recording)[0]
-    assert support.share < 0.01 and len(support.channel) == 1 and len(support.to_row()) == 14
+    assert support.share < 0.01 and len(support.channel) == 1 and len(support.to_row()) == 15 and support.room > 0
     assert [one.identity for one in lte_tools.ids(recording)][0] == 217
     assert lte_tools.hits(recording)[0].ratio > 0.9
 
