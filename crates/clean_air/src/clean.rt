@@ -28,9 +28,8 @@ use sample_file::Recording;
 
 /// A receiver of one transmission scheme whose cell list contains each cell that the receiver hears. (own)
 pub trait CleanReader: FrameReader {
-    /// A law: the receiver's list contains each cell of its scheme and each MIB, of any bandwidth, that the receiver
-    /// hears or that is nearest, and each cell that is received through channels (`IsCellThrough`) or to which the
-    /// recording is faithful.
+    /// A law: the receiver's list contains each cell of its scheme and each MIB that the receiver hears or that is
+    /// nearest, and each cell that is received through channels (`IsCellThrough`) or to which the recording is faithful.
     fn holds_cells()
         ensures { HoldsCells Self.receiver };
 
