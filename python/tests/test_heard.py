@@ -5,7 +5,7 @@ import numpy as np
 import pytest
 
 from lte_reference import cell as reference_cell
-from lte_reference import heard
+from lte_reference import heard, nearest
 from lte_reference.search import RULES
 from tests.conftest import CELL, TOP
 
@@ -35,8 +35,10 @@ def test_heard_cells_are_listed(name, keys):
     row = heard_share.looked_at(name, cell, 16, data, r)
     assert (row["master"], row["heard"], row["listed"], row["fault"]) == (True, True, True, None)
     assert row["sib1"] is (None if name == "four" else True)
+    assert (row["near mib"], row["nearest"]) == (True, True)
     others = heard_share.looked_at(name, {**cell, "spare": 6}, 16, data, r)
     assert (others["broadcast"], others["listed"], others["fault"]) == (False, False, None)
+    assert (others["near mib"], others["nearest"]) == (False, False)
 
 
 def test_each_part_is_compared_with_what_was_sent():
@@ -69,9 +71,29 @@ def test_a_promise_that_is_not_held_is_printed(capfd):
     printed = capfd.readouterr().out.splitlines()
     assert printed[-2:] == [
         "field 4 one: not listed as promised: 0 entries",
-        "1 of 2 that meet the premise are not listed as promised",
+        "1 of 2 that meet a premise are not listed as promised",
     ]
-    assert "| all | 2 | 100.0 | 100.0 | 100.0 | 100.0 | 100.0 | 100.0 | 50.0 | 100.0 | 100.0 | - |" in printed
+    shares = [*(6 * ["100.0"]), "50.0", *(4 * ["100.0"]), "-"]
+    assert f"| all | 2 | {' | '.join(shares)} |" in printed
+
+
+def test_sums_may_be_short_of_a_level():
+    """The 15 smallest sums are above 0 together exactly if some level has a shortfall below 15 times the level; 14 weak
+    values of 120 with wrong signs leave room, 15 do not."""
+    rng = np.random.default_rng(1)
+    met = []
+    for _ in range(100):
+        word, sums = [0] * 40, rng.integers(rng.integers(-12, 3), 60, (40, 3)).tolist()
+        levels = {abs(value) for row in sums for value in row}
+        met.append(nearest.room(sums, word) > 0)
+        assert met[-1] == any(nearest.shortfall(sums, word, level) < 15 * level for level in levels)
+        for wrong in (14, 15):
+            sent = [[15] * 3 for _ in range(40)]
+            for i in rng.permutation(120)[:wrong].tolist():
+                sent[i // 3][i % 3] = -1
+            assert nearest.shortfall(sent, [0] * 40, 15) == 16 * wrong
+            assert (nearest.room(sent, [0] * 40) > 0) == (wrong == 14)
+    assert 10 < sum(met) < 90
 
 
 def test_recordings_follow_the_standard():

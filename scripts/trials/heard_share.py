@@ -2,12 +2,15 @@
 """heard_share.py [KIND ..] [--count N] [--first SEED] [--carrier NAME] [--rows FILE]
 heard_share.py --table FILE ..
 
-Makes recordings as a radio gives them (on_air.py) and evaluates the premise of reception on each, part by part
-(crates/clean_air/specs/Heard.antt, by python/lte_reference/heard.py). Prints the share of the recordings that meet each
-part, the parts up to the master information block (`master`) and all parts (`heard`), and the share for which lte_cli
-lists the cell (`listed`) and its SIB1 (`sib1`). Then prints each recording that meets the premise and is not listed as
-promised: with its identity, start, frame number and master information block, at cost 0 from the first whole frame, and
-with its SIB1 if all parts are met. The status is 1 if there is such a recording.
+Makes recordings as a radio gives them (on_air.py) and evaluates both premises of reception on each: that the cell is
+heard, part by part (crates/clean_air/specs/Heard.antt, by python/lte_reference/heard.py), and that it is nearest
+(crates/clean_air/specs/Nearest.antt, by python/lte_reference/nearest.py). Prints the share of the recordings that meet
+each part, the parts up to the master information block (`master`) and all parts (`heard`), the share in which the
+master information block (`near mib`) and the complete cell (`nearest`) are nearest, and the share for which lte_cli
+lists the cell (`listed`) and its SIB1 (`sib1`). Then prints each recording that meets a premise and is not listed as
+promised. A cell that is heard is listed with its identity, start, frame number and master information block, at cost 0
+from the first whole frame; a cell that is nearest is listed at most 9 samples away, at any cost. Both are listed with
+SIB1 if the premise includes it. The status is 1 if there is such a recording.
 
     field      cells of 6 resource blocks, half of them with one antenna port, the others with two or four or with the
                extended cyclic prefix; frames begin between samples
@@ -29,7 +32,7 @@ import numpy as np
 
 import faithful
 import on_air
-from lte_reference import heard
+from lte_reference import heard, nearest
 from lte_reference.search import FRAME, RULES, WIDTHS
 from lte_tools.arguments import Parser
 
@@ -41,7 +44,8 @@ PATHS = [("flat", 0), ("EPA", 0), ("EPA", 5), ("EVA", 5), ("EVA", 70), ("ETU", 5
 OFFSETS = ((0, 0), (0, 30), (30, 100), (100, 300))  # hertz
 FOUND_NEAR = 24  # samples
 STEPS = {"decibels": (20, 25, 30, 35, 45), "hertz": (0, 30, 100, 300)}
-SHARES = ("signals", "identity", "broadcast", "master", "indicator", "control", "block", "heard", "listed", "sib1")
+SHARES = ("signals", "identity", "broadcast", "master", "indicator", "control", "block", "heard")
+SHARES += ("near mib", "nearest", "listed", "sib1")
 
 
 def drawn_cell(name, kind, draw):
@@ -86,6 +90,19 @@ def is_near(entry, cell):
     return its == (cell["identity"], cell["spare"]) and abs(apart) <= FOUND_NEAR
 
 
+def near_fault(name, cell, listed, shifts, is_whole):
+    """Returns what the promise about a cell that is nearest at these shifts lacks in a list, or nothing."""
+    keys = wanted(name, cell, is_whole)
+    for entry in listed:
+        its = heard.later(cell, (entry["at"] - heard.start_of(cell) + FRAME // 2) % FRAME - FRAME // 2)
+        want = wanted(name, its, is_whole)
+        gaps = [heard.start_of(its) - heard.start_of(heard.later(cell, shift)) for shift in shifts]
+        is_close = any(min(gap % FRAME, -gap % FRAME) <= heard.NEAR for gap in gaps)
+        if is_close and all(entry[key] == want[key] for key in keys):
+            return None
+    return f"no entry near {shifts}" if shifts else None
+
+
 def looked_at(name, cell, bits, data, r):
     """Returns which parts a recording meets, whether the cell and its SIB1 are listed, and which promise is broken."""
     words = [*faithful.WORDS[name], "--json", *(("--format", "cu8") if bits == 8 else ())]
@@ -99,6 +116,11 @@ def looked_at(name, cell, bits, data, r):
     if row["master"]:
         want = wanted(name, heard.later(cell, shift), row["heard"] and not cell.get("width"))
         row["fault"] = faithful.fault_of(want, listed, json.loads(faithful.said(["evidence", *words], data)))
+    masters, cells = nearest.nearest(r, cell, RULES[faithful.WORDS[name]])
+    row |= {"near mib": bool(masters), "nearest": bool(masters if cells is None else cells)}
+    row["fault"] = row["fault"] or near_fault(name, cell, listed, masters, False)
+    if not cell.get("width"):
+        row["fault"] = row["fault"] or near_fault(name, cell, listed, masters if cells is None else cells, True)
     return row
 
 
@@ -134,7 +156,7 @@ def groups(rows):
 
 def share(rows, name):
     """Returns how many rows of a hundred have a part, or a dash if none could."""
-    its = [row[name] for row in rows if row[name] is not None]
+    its = [row[name] for row in rows if row.get(name) is not None]
     return f"{100 * sum(its) / len(its):.1f}" if its else "-"
 
 
@@ -152,7 +174,8 @@ def table(rows):
     faults = [row for row in rows if row["fault"]]
     for row in faults:
         print(f"{row['kind']} {row['seed']} {row['carrier']}: not listed as promised: {row['fault']}")
-    print(f"{len(faults)} of {sum(row['master'] for row in rows)} that meet the premise are not listed as promised")
+    count = sum(row["master"] or row.get("near mib", False) for row in rows)
+    print(f"{len(faults)} of {count} that meet a premise are not listed as promised")
     return len(faults)
 
 
