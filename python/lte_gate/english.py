@@ -13,9 +13,9 @@ from .rattle_source import METHOD, comments_of
 from .repository import TOP, Refused, report, run
 
 BUDGETS = {
-    "scripts/trials": 100,
-    "python/lte_reference": 106,
-    "python/lte_gate": 70,
+    "scripts/trials": 33,
+    "python/lte_reference": 42,
+    "python/lte_gate": 27,
     "python/lte_tools": 410,
 }  # marked texts of a folder: may only fall
 RETIRED = re.compile(
@@ -61,7 +61,7 @@ PARAMETERS = re.compile(r"\bfn \w+[^(]*\((.*?)\)(?: ->|\s*$|\s*\{|\s*where|\s*re
 
 
 def leans(comment):
-    """Returns whether a comment needs what stands above it: it begins with a pronoun or ends with a bare verb."""
+    """Returns whether a comment needs the text above it: it begins with a pronoun or ends with a bare verb."""
     return bool(LEANING.match(comment) or SAME.match(comment) or HANGING.match(comment))
 
 
@@ -82,7 +82,7 @@ def parameters_of(head):
 
 
 def function_faults(comment, head):
-    """Yields what is wrong with the comment of a function."""
+    """Yields the faults of a function's comment."""
     words, bare = comment.words, QUOTED.sub("", comment.words)
     first = words.split(" ")[0]
     if not VERB.match(words) or first in NO_VERB:
@@ -95,7 +95,7 @@ def function_faults(comment, head):
 
 
 def faults_of(text):
-    """Yields pairs of a line's number and what is wrong with the comment there, of a file of src/ or specs/."""
+    """Yields pairs of a line's number and a fault of the comment there, for a file of src/ or specs/."""
     lines = text.split("\n")
     for comment in comments_of(text):
         bare = QUOTED.sub("", comment.words)
