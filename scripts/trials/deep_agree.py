@@ -118,7 +118,7 @@ def samples_of(draw, kind, length):
 
 
 def length_of(draw, kind):
-    """Returns the number of samples: seldom more than those of --deep without a word."""
+    """Returns the number of samples: seldom more than `--deep` reads without `all`."""
     if kind == "long":
         return MOST + int(draw.integers(2))
     most = deep.KEPT if draw.random() < 0.85 else deep.KEPT * 2 if draw.random() < 0.8 else MOST
