@@ -7,6 +7,7 @@
 #   pyflakes3, black (120 columns) and mypy on the Python, shellcheck on the scripts;
 #   edits: each mutant can be applied;
 #   comments: comments are readable by themselves and follow the rules of English that a script can ask;
+#   english: docstrings, help texts and refusals of Python have no more marked texts than each folder's budget;
 #   layers: each entry of crates.txt is used, and large crates have a reason;
 #   form_list: scripts/forms.txt has an example of each command form, and the tests of faults are made from it;
 #   documents: what the pages name exists, numbers and lists of cells are right, and no page is too long;
@@ -127,6 +128,7 @@ check_sources() {
     fi
     gate edits
     gate comments
+    gate english
     gate layers
     gate form_list
     gate documents

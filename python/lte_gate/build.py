@@ -110,7 +110,7 @@ def second_names(source, target):
 
 
 class Room:
-    """The folder in which crates are built: copies of the sources, what was built, and what the kit said."""
+    """The folder in which crates are built: copies of the sources, built files, and the kit's output."""
 
     def __init__(self, folder, crates, copies):
         self.crates, self.built, self.logs = crates, folder / "built", folder / "logs"
@@ -120,7 +120,7 @@ class Room:
             path.mkdir(parents=True, exist_ok=True)
 
     def fill(self, copy):
-        """Has a copy hold the sources as they are now; what the kit kept of a crate stays."""
+        """Has a copy hold the sources as they are now; the kit's kept results of a crate stay."""
         for crate in self.crates.by_name.values():
             folder = copy / "crates" / crate.name
             for part in PARTS:
@@ -159,7 +159,7 @@ class Room:
             return subprocess.Popen([*kit_command(), *words], stdout=log, **how)
 
     def keep(self, name, copy):
-        """Keeps what a command made, and whether it made it."""
+        """Keeps the output of a command, and whether it succeeded."""
         out, target = copy / "crates" / name / "out", self.built / name
         is_program = self.crates.by_name[name].is_program
         made = out / name if is_program else out / "rlib"

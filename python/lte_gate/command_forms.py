@@ -20,7 +20,7 @@ ONLY = re.compile(r"\((not )?(\w+(?:, \w+)*)\)$")  # the commands that take an o
 
 @dataclass
 class Option:
-    """Optional words, such as `--ports 2 | --ports 4`, and what they change."""
+    """Optional words, such as `--ports 2 | --ports 4`, and their effect."""
 
     words: str
     says: str

@@ -29,7 +29,7 @@ def leaning(text):
 
 
 def faults_in(crate):
-    """Yields the faults of a crate's comments, each with its place."""
+    """Yields the faults of a crate's comments, each with its file and line."""
     for file in files_of(crate):
         text, place = file.read_text(encoding="utf-8"), file.relative_to(TOP)
         for line, fault in [*leaning(text), *english.faults_of(text)]:

@@ -101,14 +101,14 @@ _arguments \\
 
 
 def numbers(template):
-    """Returns the lines for words that stand for numbers."""
+    """Returns the lines for words that represent numbers."""
     rates = {letter: "|".join(map(re.escape, words)) for letter, words in command_forms.CHOICES.items()}
     patterns = command_forms.NUMBERS | rates
     return "\n".join(template.format(letter=letter, pattern=pattern) for letter, pattern in patterns.items())
 
 
 def choices(indent):
-    """Returns the lines for words that stand for one of several words."""
+    """Returns the lines for words that represent one of several words."""
     return "\n".join(
         CHOICE.format(indent=indent, letter=letter, words=" ".join(words))
         for letter, words in command_forms.CHOICES.items()

@@ -182,7 +182,7 @@ def parser():
     """Returns the parser of the command's arguments."""
     made = argparse.ArgumentParser("copies", description=__doc__, formatter_class=argparse.RawDescriptionHelpFormatter)
     made.add_argument("--likeness", metavar="PERCENT", type=float, default=80.0)
-    made.add_argument("--list", action="store_true", help="each family too, with its places")
+    made.add_argument("--list", action="store_true", help="each family too, with its positions")
     made.add_argument("folder", metavar="FOLDER", nargs="?", type=pathlib.Path, default=TOP)
     return made
 

@@ -1,4 +1,4 @@
-"""crates.txt: its one parser, the crates below each crate, how much text each has, and checksums of what they are."""
+"""crates.txt: its one parser, the crates below each crate, how much text each has, and checksums of their files."""
 import functools
 import hashlib
 import pathlib
@@ -11,7 +11,7 @@ PARTS = ("src", "specs", "proofs")
 
 @dataclass(frozen=True)
 class Entry:
-    """A crate's line of crates.txt: its name, all names behind the colon, the line, and the title of its group."""
+    """A crate's line of crates.txt: its name, all names after the colon, the line, and the title of its group."""
 
     name: str
     below: tuple[str, ...]

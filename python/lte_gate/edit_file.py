@@ -54,7 +54,7 @@ def read(file):
 
 
 def edits_of(top, folders=FOLDERS):
-    """Returns the mutants of a repository, those of the first folder first."""
+    """Returns the mutants of a repository, in the order of the folders."""
     return [read(file) for folder in folders for file in sorted(top.glob(f"crates/*/{folder}/*.edit"))]
 
 

@@ -1,7 +1,32 @@
-"""What a script can ask of the English of comments in src/ and specs/: `faults_of` a file's text."""
+"""english [--list] [FOLDER ..]
+
+Counts the marked texts of each folder of Python: docstrings, help texts and refusals with a retired word, a fronted
+"Of", or 40 words in a function's first sentence. The status is 1 if a folder has more than its budget in
+BUDGETS, which may only fall. With --list each marked text is printed. Comments of src/ and specs/ have their own rules
+(`faults_of`), which the command comments applies.
+"""
+import argparse
 import re
 
+from .python_texts import texts_of
 from .rattle_source import METHOD, comments_of
+from .repository import TOP, Refused, report, run
+
+BUDGETS = {
+    "scripts/trials": 32,
+    "python/lte_reference": 42,
+    "python/lte_gate": 27,
+    "python/lte_tools": 386,
+}  # marked texts of a folder: may only fall
+RETIRED = re.compile(
+    r"""\b(?:
+    told | tells? | telling | speaks? | spoken | so[ ]many | alike | chance | besides? | behind | wanting
+    | taken[ ]off | takes?[ ]off | stands?(?:[ ]at)? | least | greatest | places? | that[ ]of | those[ ]of | dear
+    | what (?![ ](?:if|kind|is[ ]the)\b)
+    )\b(?![(_-])""",
+    re.X | re.I,
+)
+KEPT = re.compile(r"(?i)\b(?:at least|stand-in|in place|takes? place|least squares|least significant)\b")
 
 MOST_WORDS = 39  # of the comment of a function
 QUOTED = re.compile(r"`[^`]*`|\"[^\"]*\"")
@@ -36,7 +61,7 @@ PARAMETERS = re.compile(r"\bfn \w+[^(]*\((.*?)\)(?: ->|\s*$|\s*\{|\s*where|\s*re
 
 
 def leans(comment):
-    """Returns whether a comment needs what stands above it: it begins with a pronoun or ends with a bare verb."""
+    """Returns whether a comment needs the text above it: it begins with a pronoun or ends with a bare verb."""
     return bool(LEANING.match(comment) or SAME.match(comment) or HANGING.match(comment))
 
 
@@ -57,7 +82,7 @@ def parameters_of(head):
 
 
 def function_faults(comment, head):
-    """Yields what is wrong with the comment of a function."""
+    """Yields the faults of a function's comment."""
     words, bare = comment.words, QUOTED.sub("", comment.words)
     first = words.split(" ")[0]
     if not VERB.match(words) or first in NO_VERB:
@@ -70,7 +95,7 @@ def function_faults(comment, head):
 
 
 def faults_of(text):
-    """Yields pairs of a line's number and what is wrong with the comment there, of a file of src/ or specs/."""
+    """Yields pairs of a line's number and a fault of the comment there, for a file of src/ or specs/."""
     lines = text.split("\n")
     for comment in comments_of(text):
         bare = QUOTED.sub("", comment.words)
@@ -82,3 +107,56 @@ def faults_of(text):
             head = head_below(lines, comment.line + comment.count)
             if head:
                 yield from ((comment.line, fault) for fault in function_faults(comment, head))
+
+
+def marks_of(text):
+    """Returns why an English text of Python is marked: its retired words, a fronted Of, or a long first sentence."""
+    bare = KEPT.sub("", QUOTED.sub("", text))
+    marks = [f"says {word.lower()}" for word in RETIRED.findall(bare)]
+    if FRONTED.search(bare):
+        marks.append("has a fronted Of")
+    first = re.split(r"[.:;](?:\s|$)", bare)[0].split()
+    if len(first) > MOST_WORDS:
+        marks.append(f"has {len(first)} words in its first sentence")
+    return marks
+
+
+def marked_in(folder):
+    """Yields a line for each marked text of a folder's Python files, with its file and line number."""
+    for file in sorted((TOP / folder).glob("*.py")):
+        for line, text in texts_of(file.read_text(encoding="utf-8")):
+            marks = marks_of(text)
+            if marks:
+                yield f"{folder}/{file.name}:{line}: {', '.join(marks)}: {' '.join(text.split())}"
+
+
+def budget_faults(folder, count):
+    """Returns the fault of a folder with more marked texts than its budget, or nothing."""
+    over = count > BUDGETS[folder]
+    return [f"{folder}: {count} marked texts, {BUDGETS[folder]} are allowed (--list prints them)"] if over else []
+
+
+def parser():
+    """Returns the parser of the command's arguments."""
+    made = argparse.ArgumentParser("english", description=__doc__, formatter_class=argparse.RawDescriptionHelpFormatter)
+    made.add_argument("--list", action="store_true", help="print each marked text")
+    made.add_argument("folders", metavar="FOLDER", nargs="*", help=f"default: {', '.join(BUDGETS)}")
+    return made
+
+
+def main():
+    args = parser().parse_args()
+    faults, counts = [], []
+    for folder in args.folders or BUDGETS:
+        if folder not in BUDGETS:
+            raise Refused(f"{folder} has no budget: {', '.join(BUDGETS)}")
+        marked = list(marked_in(folder))
+        if args.list:
+            print(*marked, sep="\n")
+        counts.append(f"{folder} {len(marked)}")
+        faults += budget_faults(folder, len(marked))
+    return report("english", faults, ", ".join(counts))
+
+
+if __name__ == "__main__":
+    run(main, "english")

@@ -56,7 +56,7 @@ class Group:
 
     @property
     def in_crate(self):
-        """Tells whether the tests of faults run the group: the names of the others are in small letters."""
+        """Returns whether the tests of faults run the group: the names of the others are in small letters."""
         return self.name.isupper()
 
 
@@ -95,7 +95,7 @@ def rust_of_group(group):
 
 
 def is_word(asked, word):
-    """Returns whether a word of an example stands for a word of `help`."""
+    """Returns whether a word of an example is an instance of a word of `help`."""
     if asked in command_forms.CHOICES:
         return word in command_forms.CHOICES[asked]
     return bool(re.fullmatch(command_forms.NUMBERS[asked], word)) if asked in command_forms.NUMBERS else asked == word
@@ -114,7 +114,7 @@ def parts(sequence):
 
 
 def faults_of(found, sequences):
-    """Yields what is wrong with these examples for the sequences that `help` allows."""
+    """Yields the faults of these examples for the sequences that `help` allows."""
     shown = set()
     for one in found:
         matches = [sequence for sequence in sequences if is_of(sequence, one.words.split())]

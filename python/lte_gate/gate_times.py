@@ -27,7 +27,7 @@ KINDS = ("proof", "tests", "seed", "edits")
 
 
 def processes():
-    """Returns, by process, its parent, its start, and its seconds with those of its ended children."""
+    """Returns, by process, its parent, its start, and its seconds with its ended children's."""
     found = {}
     for name in os.listdir("/proc"):
         if name.isdigit():
@@ -108,7 +108,7 @@ class Sampler:
 
 
 def parser():
-    """Returns the parser of the command's arguments, which are those of `rt ci`."""
+    """Returns the parser of the command's arguments, the same as of `rt ci`."""
     how = {"description": __doc__, "formatter_class": argparse.RawDescriptionHelpFormatter}
     made = argparse.ArgumentParser("gate_times", **how)
     made.add_argument("words", metavar="WORD", nargs=argparse.REMAINDER)

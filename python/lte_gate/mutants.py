@@ -55,7 +55,7 @@ class Mutant:
         return next((Place(path, *map(vars(it).get, Place._fields[1:])) for it in functions if is_in(it, line)), None)
 
     def apply(self, crate):
-        """Changes the lines where the texts stand, and no others: a text is one line, before and after."""
+        """Changes the lines with these texts, and no others: a text is one line, before and after."""
         for (path, old, new), line in zip(self.pairs, self.lines):
             file = crate / path
             lines = file.read_text(encoding="utf-8").split("\n")
@@ -104,7 +104,7 @@ def is_own_failure(line, function):
 
 
 def is_at(line, function):
-    """Returns whether a line of a check is at a place of the function, in its text or in its proof."""
+    """Returns whether a line of a check is in the function, in its text or in its proof."""
     at = re.match(r"(?:note: )?(?:\./)?([\w/.+-]+):(\d+):\d+: ", line)
     if not at:
         return False
@@ -185,7 +185,7 @@ class Lane:
 
 
 def work(lane, waiting, counts, seen, alone):
-    """Tries what is waiting, check by check."""
+    """Tries the waiting mutants, check by check."""
     while True:
         with alone:
             if not waiting:
@@ -204,7 +204,7 @@ def parser():
     """Returns the parser of the command's arguments."""
     made = argparse.ArgumentParser("mutants", description=__doc__, formatter_class=argparse.RawDescriptionHelpFormatter)
     made.add_argument("--lanes", metavar="N", type=int, default=2, help="checks at once (2)")
-    made.add_argument("--wrong", action="store_true", help="only those of wrong/")
+    made.add_argument("--wrong", action="store_true", help="only the mutants in wrong/")
     made.add_argument("crates", metavar="CRATE", nargs="*")
     return made
 

@@ -81,7 +81,7 @@ def compiled(top, crate):
 
 
 def copy_of(room):
-    """Returns a copy of the repository, without what was built."""
+    """Returns a copy of the repository, without built files."""
     top = pathlib.Path(room) / "copy"
     top.mkdir()
     for name in ("crates.txt", "HANDLES"):
@@ -91,7 +91,7 @@ def copy_of(room):
 
 
 def outcome(name):
-    """Returns what became of a further field or required method."""
+    """Returns the outcome of a further field or required method."""
     item = ITEMS[name]
     with tempfile.TemporaryDirectory(prefix="published-") as room:
         top = copy_of(room)

@@ -33,7 +33,7 @@ OPENING, CLOSING = "([{", ")]}"
 
 @dataclasses.dataclass(frozen=True)
 class Named:
-    """A path that a file names, and where; `alias` is what the file calls it."""
+    """A path that a file names, and where; `alias` is its name in the file."""
 
     line: int
     path: tuple
@@ -52,7 +52,7 @@ class Cases:
 
 @dataclasses.dataclass(frozen=True)
 class RustFile:
-    """What a file of src/ defines and names. Of `items` and `exports` those that are published are true."""
+    """The definitions and names of a file of src/. Published `items` and `exports` are true."""
 
     items: dict
     modules: frozenset
@@ -68,7 +68,7 @@ class RustFile:
 
 @dataclasses.dataclass(frozen=True)
 class AnttFile:
-    """What a file of specs/ or proofs/ defines and names. Of `modules` those that are published are true."""
+    """The definitions and names of a file of specs/ or proofs/. Published `modules` are true."""
 
     names: frozenset
     modules: dict
@@ -304,7 +304,7 @@ def rust_file(text):
 
 
 def cases_of(text, variants):
-    """Yields the cases of each function by equations that has only cases of one type at one place."""
+    """Yields the cases of each function by equations that has only cases of one type at one position."""
     groups = collections.defaultdict(list)
     for found in EQUATION.finditer(text):
         groups[found[1], found[2]].append((line_at(text, found.start()), split_outside(found[3], " ")))

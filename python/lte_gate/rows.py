@@ -177,7 +177,7 @@ def numbers_of(data):
 
 
 def table(name, file=TRANSMISSIONS):
-    """Returns patterns for a recording's samples at the places of the test's table of this name."""
+    """Returns patterns for a recording's samples at the positions of the test's table of this name."""
 
     def patterns(data):
         rows = re.search(rf"const {name}: [^=]*= \[(.*?)\];", (TOP / file).read_text(encoding="utf-8"), re.S)[1]
@@ -189,7 +189,7 @@ def table(name, file=TRANSMISSIONS):
 
 
 def sums_by_place(data):
-    """Returns the sums of the real and of the imaginary components, each times its place modulo 997."""
+    """Returns the sums of the real and of the imaginary components, each times its index modulo 997."""
     numbers = numbers_of(data)
     return tuple(sum(i % 997 * number for i, number in enumerate(numbers[first::2])) for first in (0, 1))
 
@@ -200,7 +200,7 @@ def sums_of(name):
 
 
 def table_and_sums(name):
-    """Returns patterns for the samples at the places of the table of this name, and for their sums."""
+    """Returns patterns for the samples at the positions of the table of this name, and for their sums."""
 
     def patterns(data):
         sums = exactly(f"const {name}_SUMS: (i64, i64) = {sums_by_place(data)};")
@@ -553,7 +553,7 @@ def printed(look):
 
 
 def output_of(look, is_anew=False):
-    """Returns what a look's command prints, as an earlier run did if nothing changed, and whether it was run."""
+    """Returns the output of a look's command, kept from an earlier run if nothing changed, and whether it was run."""
     key = key_of(look)
     file = kept_in() / key
     with TURNS[key]:

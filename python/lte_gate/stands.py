@@ -31,7 +31,7 @@ MADE = ("Given", "Goals")
 
 
 def git(*words):
-    """Returns what git prints; if it fails, the refusal has its last line."""
+    """Returns the output of git; if it fails, the refusal has its last line."""
     done = subprocess.run(["git", *words], cwd=TOP, capture_output=True, encoding="utf-8", errors="replace")
     if done.returncode:
         last = (done.stderr.strip().splitlines() or ["nothing found"])[-1]
@@ -60,7 +60,7 @@ class Blobs:
 
 @dataclasses.dataclass(frozen=True)
 class Crate:
-    """What the files of a crate define and name: of src/ by module, of specs/ and proofs/ by path."""
+    """The definitions and names of a crate's files: src/ by module, specs/ and proofs/ by path."""
 
     name: str
     src: dict
@@ -138,7 +138,7 @@ class Tree:
         return None
 
     def walk(self, crate, module, rest, outside, tried=()):
-        """Returns what a path names, from a module on."""
+        """Returns the item that a path names, from a module."""
         file = self.crates[crate].src.get(module)
         if file is None:
             return None
@@ -161,7 +161,7 @@ class Tree:
         return self.walk(crate, (*module, name) if name else module, rest, outside, tried)
 
     def used(self, crate, module, path, tried=()):
-        """Returns what a path of `use` in a module names."""
+        """Returns the item that a path of `use` in a module names."""
         file, first = self.crates[crate].src[module], path[0]
         if first == "crate":
             return self.walk(crate, (), path[1:], False, tried)
@@ -185,7 +185,7 @@ class Tree:
 
 
 def declared_fault(crate, path, name):
-    """Returns what is wrong with an import of a type that src/ declares, or of a name in it, or None."""
+    """Returns the fault of an import of a type that src/ declares, or of a name in it, or None."""
     place = next((at for at, part in enumerate(path) if part in INNER), len(path))
     module, kind = path[: place - 1], path[place - 1]
     if path[-1] == "TheConstants":
@@ -199,7 +199,7 @@ def declared_fault(crate, path, name):
 
 
 def made_fault(crate, path):
-    """Returns what is wrong with an import of what is made of a function of a module or of a type, or None."""
+    """Returns the fault of an import made of a function of a module or of a type, or None."""
     *front, name = path[:-1] + (path[-1].removeprefix("+"),)
     own = crate.src.get(tuple(front))
     if own and ("", name) in own.methods:
@@ -210,7 +210,7 @@ def made_fault(crate, path):
 
 
 def defined_fault(crate, path, name, outside):
-    """Returns what is wrong with an import of a definition or a lemma, or None."""
+    """Returns the fault of an import of a definition or a lemma, or None."""
     file, lib = crate.antt.get(path), crate.antt.get((path[0], "Lib"))
     if file is None:
         return f"{crate.name} has no {'.'.join(path)}"
@@ -222,7 +222,7 @@ def defined_fault(crate, path, name, outside):
 
 
 def import_fault(tree, crate, named):
-    """Returns what is wrong with an import of the kit's names, or None."""
+    """Returns the fault of an import of the kit's names, or None."""
     other, path = named.path[1], named.path[2:]
     if other not in (crate.name, *ALWAYS_THERE) and other not in tree.below.get(crate.name, ()):
         return f"crates.txt has no {other} for {crate.name}"
@@ -240,7 +240,7 @@ def import_fault(tree, crate, named):
 
 
 def use_fault(tree, crate, module, named):
-    """Returns what is wrong with a `use`, or None."""
+    """Returns the fault of a `use`, or None."""
     first, file = named.path[0], crate.src[module]
     is_own = first in (*OUR_OWN, *ALWAYS_THERE, *file.modules, *file.variants)
     is_other = not is_own and (first in tree.crates or first not in file.exports)
@@ -272,7 +272,7 @@ def antt_enum_of(tree, path):
 
 
 def faults_of(tree, crate):
-    """Yields each fault of a crate, with its place."""
+    """Yields each fault of a crate, with its file and line."""
     for key, file in crate.src.items():
         where = crate.paths[key]
         for name in file.modules - file.inner:

@@ -40,7 +40,7 @@ def word_of(block, ports):
 
 
 def coded(word):
-    """Returns the coded bits of a 40-bit word, by place and stream (TS 36.212 section 5.1.3.1)."""
+    """Returns the coded bits of a 40-bit word, by position and stream (TS 36.212 section 5.1.3.1)."""
     bits = [word >> 39 - k & 1 for k in range(40)]
     return np.array([[sum(bits[k - t] for t in taps) % 2 for taps in search.TAPS] for k in range(40)])
 

@@ -123,7 +123,7 @@ def left(r, sent, a, b):
 
 
 def subtract(r, description, start, sfn):
-    """The gain, the greatest size of a component that is left, and the residue, or nothing."""
+    """Returns the gain, the maximum magnitude of a remaining component, and the residual, or nothing."""
     sent = sent_samples(description, len(r), start, sfn)
     p, q = estimate(r, description["identity"] % 3, start)
     gains = [

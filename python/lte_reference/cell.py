@@ -73,13 +73,13 @@ def bits_of(number, count):
 
 
 def with_check(bits, count, polynomial, mask=0):
-    """The bits and their check of so many bits (TS 36.212 section 5.1.1)."""
+    """Returns the bits and their CRC of this length (TS 36.212 section 5.1.1)."""
     number = int("".join(map(str, bits)), 2)
     return bits + bits_of(crc(number, len(bits), polynomial) ^ mask, count)
 
 
 def matrix(items, columns, shift=0):
-    """What leaves the sub-block interleaver, with nulls: written by rows, read by columns (TS 36.212 section 5.1.4)."""
+    """Interleaves a sub-block, with nulls: written by rows, read by columns (TS 36.212 section 5.1.4)."""
     rows = -(-len(items) // 32)
     cells = [None] * (32 * rows - len(items)) + items
     cells = cells[shift:] + cells[:shift]
@@ -87,7 +87,7 @@ def matrix(items, columns, shift=0):
 
 
 def repeated(items, start, count):
-    """So many items from a place on, round and round, without nulls."""
+    """Returns this number of items from a position, circularly, without nulls."""
     items = [item for item in items[start:] + items[:start] if item is not None]
     return [items[i % len(items)] for i in range(count)]
 
@@ -208,7 +208,7 @@ def points(bits, c_init):
 
 
 def drawn(size, count, *seed):
-    """So many whole elements of at most this size, half of them of nearly this size."""
+    """Returns integer elements of at most this magnitude, half of them close to it."""
     draw = np.random.default_rng(seed)
     sizes = size * np.where(draw.random(count) < 0.5, 1, draw.random(count))
     angles = 2 * np.pi * draw.random(count)
@@ -216,7 +216,7 @@ def drawn(size, count, *seed):
 
 
 class Frame:
-    """What an antenna port of a cell sends in a frame; here the only one, with the normal cyclic prefix."""
+    """The signal of an antenna port in a frame; here the only one, with the normal cyclic prefix."""
 
     PORTS = 1
     SYMBOLS, PREFIXES = 7, (10, 9, 9, 9, 9, 9, 9)  # of a slot
@@ -242,7 +242,7 @@ class Frame:
         self.put(places, values)
 
     def references(self, slot, port):
-        """TS 36.211 section 6.10.1.2: the port's own; of another port nothing at their places."""
+        """TS 36.211 section 6.10.1.2: the port's reference signals; empty at other ports' elements."""
         if port < 2:
             shifts = (0, 3 * port), (self.SYMBOLS - 3, 3 - 3 * port)
         else:
@@ -269,7 +269,7 @@ class Frame:
         self.send([(self.SYMBOLS + l, k) for l, k in rows], sent[count * (self.sfn % 4) :][:count])
 
     def groups(self, l):
-        """The places of each group of a symbol of a subframe's control region (TS 36.211 section 6.2.4)."""
+        """Returns each group's resource elements in a symbol of the control region (TS 36.211 section 6.2.4)."""
         if l == 0:
             return [[k for k in range(6 * n, 6 * n + 6) if (k - self.identity) % 3] for n in range(12)]
         return [[*range(4 * n, 4 * n + 4)] for n in range(18)]
@@ -314,7 +314,7 @@ class Frame:
         self.send(places, points(sent, 65535 * 2**14 + 5 * 2**9 + self.identity))
 
     def open_places(self):
-        """Where nothing is sent; beside the synchronisation signals there are none."""
+        """Returns where nothing is sent; next to the synchronisation signals there are no such elements."""
         is_open = ~self.taken
         for slot in (0, 10):
             last = self.SYMBOLS * (slot + 1) - 1
@@ -363,7 +363,7 @@ class Frame:
 
 
 class FrameOfTwo(Frame):
-    """Of two ports: transmit diversity (TS 36.211 sections 6.3.3.3 and 6.3.4.3) without its factor."""
+    """Two ports: transmit diversity (TS 36.211 sections 6.3.3.3 and 6.3.4.3) without its factor."""
 
     PORTS = 2
     MASK = 0xFFFF
@@ -374,19 +374,19 @@ class FrameOfTwo(Frame):
             self.put(places[i : i + 2], self.pair(i // 2, *values[i : i + 2]))
 
     def pair(self, _, x, y):
-        """Port 0 sends both, port 1 beside it -conj y and conj x."""
+        """Port 0 sends both, and port 1 sends -conj y and conj x."""
         return (x, y) if self.port == 0 else crosswise(x, y)
 
 
 class FrameOfFour(FrameOfTwo):
-    """Of four ports, without control region and system information."""
+    """A frame with four antenna ports, without control region and SIB1."""
 
     PORTS = 4
     MASK = 0x5555
     HAS_CONTROL = False
 
     def pair(self, number, x, y):
-        """Pairs of even number go over ports 0 and 2 as over two ports, those of odd number over ports 1 and 3."""
+        """Pairs of even number use ports 0 and 2 as two ports do, and pairs of odd number use ports 1 and 3."""
         if number % 2 != self.port % 2:
             return (0, 0), (0, 0)
         return (x, y) if self.port < 2 else crosswise(x, y)
@@ -411,7 +411,7 @@ CARRIERS = {"one": Frame, "two": FrameOfTwo, "four": FrameOfFour, "long": LongFr
 
 
 def sent(cell, carrier="one"):
-    """The samples of a described cell: what its antenna ports send, added."""
+    """Returns the samples of a described cell: the sum of its antenna ports."""
     numbers = [(cell["sfn"] + j) % 1024 for j in range(-(-(cell["offset"] + cell["samples"]) // 19_200))]
     frame = CARRIERS[carrier]
     ports = [np.concatenate([frame(cell, sfn, port).samples() for sfn in numbers]) for port in range(frame.PORTS)]

@@ -49,7 +49,7 @@ PATTERNS = [
 
 
 class Entry(NamedTuple):
-    """A cell of the list: its first primary signal's position and N2, and what was found there."""
+    """A cell of the list: its first PSS's position and N2, and the values found there."""
 
     t: int
     n2: int
@@ -69,7 +69,7 @@ class Entry(NamedTuple):
 
 
 def half_frames(count):
-    """Returns how many half-frames of so many samples are accumulated."""
+    """Returns how many half-frames of this number of samples are accumulated."""
     return (count - 9_864) // HALF_FRAME + 1
 
 
@@ -201,7 +201,7 @@ def cell(entry):
 
 
 def value(r, span=KEPT):
-    """Returns what the JSON of the list over the half-frames of the first samples has."""
+    """Returns the content of the JSON of the list over the half-frames of the first samples."""
     halves = half_frames(min(len(r), span))
     return {"cells": [cell(entry) for entry in listed(r, halves)], "half_frames": halves}
 

@@ -50,7 +50,7 @@ def block(size, kind):
 
 
 def reading(k, rv):
-    """The places (stream, place) of the coded bits, once round the circular buffer."""
+    """Returns the positions (stream, index) of the coded bits, once round the circular buffer."""
     n = k + 4
     rows = -(-n // 32)
     nulls = 32 * rows - n

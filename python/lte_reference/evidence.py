@@ -33,7 +33,7 @@ from .search import (
 
 
 def measures(r, t, n2):
-    """C, E and P of a place."""
+    """Returns C, E and P at a position."""
     samples = [(int(a), int(b)) for a, b in r[t : t + 128]]
     signal = [(int(a), int(b)) for a, b in zip(*wave(n2))]
     products = [times_conjugate(x, p) for x, p in zip(samples, signal)]
@@ -48,7 +48,7 @@ def thousandths(r, t, n2):
 
 
 def sums(r, entry, frames, j, phase, rule):
-    """The 120 values of so many frames from frame j on, of which the first has this phase."""
+    """Returns the 120 values of this number of frames from frame j; the first has this phase."""
     start, cell, *_ = entry
     values = [value for i in range(frames) for value in broadcast_values(r, cell, start, j + i, rule)]
     first, sequence = rule.size * phase, pseudo_random(cell, 1920)
@@ -57,7 +57,7 @@ def sums(r, entry, frames, j, phase, rule):
 
 
 def read(r, entry, rule):
-    """How many frames were added, the first of them, its phase, cost and total: the first that tell the entry."""
+    """Returns the number of added frames, the first one, its phase, cost and total, for the entry."""
     start, cell, sfn, ports, block = entry[:5]
     for frames in range(1, rule.most + 1):
         for j in range(min(8, (len(r) - start) // FRAME) - frames + 1):
@@ -87,7 +87,7 @@ def room(values, word):
 
 
 def pilots(r, entry, j, rule):
-    """Of each antenna port what was seen at the 24 or 12 reference places of slot 1, and the pilots, by subcarrier."""
+    """Returns each antenna port's 24 or 12 received reference elements of slot 1, and the pilots, by subcarrier."""
     start, cell, *_ = entry
     symbols = [
         [(int(a), int(b)) for a, b in seen(r, start + FRAME * j + 960 + rule.first + rule.step * l)]
@@ -129,7 +129,7 @@ def lines(r, rule=ONE_PORT):
 
 
 def hexadecimal(bits):
-    """Bits byte by byte, with zeros behind them up to a whole one."""
+    """Returns bits byte by byte, padded with zeros to a complete byte."""
     return bytes(int(bits[i : i + 8].ljust(8, "0"), 2) for i in range(0, len(bits), 8)).hex()
 
 

@@ -39,7 +39,7 @@ NAMES = dict(zip(RULES, ("one-port", "two-ports", "long-prefix", "four-ports")))
 
 
 def by_names(words):
-    """What stands behind each name of a line."""
+    """Returns the values after each name of a line."""
     return dict(zip(words[0::2], words[1::2]))
 
 
@@ -118,7 +118,7 @@ def system(lines):
 
 
 def cell(lines):
-    """The object of a line `cell` and those behind it."""
+    """Returns the object of a line `cell` and the lines after it."""
     words = lines[0].split()
     fields = by_names(words[2:8] + words[12:])
     return {

@@ -16,7 +16,7 @@ from .make import command, recipe, with_errors
 
 
 def gains(n):
-    """Of sizes near one another, each about its own quarter of a turn."""
+    """Returns gains of similar magnitude, each near its own quarter of a cycle."""
     return (4, n % 7 - 3), (n % 5 - 2, 4), (-3, n % 4 - 2), (n % 3 - 1, -4)
 
 

@@ -49,7 +49,7 @@ def rows(word, phase, kept):
 
 
 def first_word(known):
-    """The first word of 40 bits that agrees with these coded bits, by place of the reading; None where none does."""
+    """Returns the first word of 40 bits that agrees with these coded bits, by position; None if none does."""
     units = [tail_biting([int(i == k) for i in range(40)], 120) for k in range(40)]
     # equations on the bits of the word, the last bits first, so that free bits are early ones
     pivots = {}

@@ -65,7 +65,7 @@ def last_place(cell):
 
 
 def stands_out(r, t, n2):
-    """Returns whether the ratio at a sample is a quarter or more, and above that of each other sample within 9."""
+    """Returns whether the ratio at a sample is a quarter or more, and above the ratio at each other sample within 9."""
     c, e, power = measures(r, t, n2)
     if e == 0 or 1000 * c < 250 * e * power:
         return False
@@ -74,7 +74,7 @@ def stands_out(r, t, n2):
 
 
 def signals(r, cell, rule):
-    """Returns whether each primary signal within 9 samples of the span stands out."""
+    """Returns whether each PSS within 9 samples of the span is a unique maximum."""
     places = [t for t, _ in primary_places(cell) if rule.step - NEAR <= t <= LAST + NEAR]
     return all(stands_out(r, t, cell["identity"] % 3) for t in places)
 

@@ -38,7 +38,7 @@ class Pcg32:
 
 
 def recipe(n):
-    """What recording number n sends, as a description of cell.py."""
+    """Returns the content of recording number n, as a description of cell.py."""
     period = 8 << n % 7
     return {
         "identity": n % 504,

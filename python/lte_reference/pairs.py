@@ -33,7 +33,7 @@ def places(port):
 
 
 def pilots(port):
-    """What was seen at these places, and the pilots."""
+    """Returns the received values of these resource elements, and the pilots."""
     sent = {l: reference(IDENTITY, SLOT, l) for l in (0, 1, 4)}
     at = [seen(l, k) for l, k in places(port)]
     return at, [times_conjugate(x, sent[l][k // 6]) for x, (l, k) in zip(at, places(port))]

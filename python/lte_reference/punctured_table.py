@@ -30,7 +30,7 @@ BITS = {2: 204, 3: 180}
 
 
 def letter(size, count):
-    """The letter of a block of this size of which so many bits are sent."""
+    """Returns the letter of a block of this size of which this number of bits is sent."""
     k, bits = size + 24, text(DESCRIPTION["sib1"])
     whole = 3 * (k + 4) <= count
     if len(bits) > size:

@@ -125,7 +125,7 @@ FIRST = 128  # the place from which on metrics are compared
 
 
 def metrics(r):
-    """From that place on E, and by N2 the pair of P and C."""
+    """Returns E from that position, and by N2 the pair of P and C."""
     windows = np.lib.stride_tricks.sliding_window_view(r[FIRST : 19_346 + 127], 128, axis=0)
     re, im = windows[:, 0], windows[:, 1]
     energy = [int(e) for e in (re * re + im * im).sum(1)]
@@ -135,13 +135,13 @@ def metrics(r):
 
 
 def hits(r):
-    """Pairs of place and N2."""
+    """Returns pairs of position and N2."""
     return hits_in(r[: 19_346 + 127].tobytes())
 
 
 @functools.lru_cache(1)
 def hits_in(front):
-    """Those of the samples that decide them."""
+    """Returns the PSS detections of the samples that decide them."""
     found = []
     energy, by_n2 = metrics(np.frombuffer(front, np.int64).reshape(-1, 2))
     for n2, (power, peak) in enumerate(by_n2):
@@ -202,7 +202,7 @@ def ranked(r, t, n2, rule=ONE_PORT):
 
 
 def identity(r, t, n2, rule=ONE_PORT):
-    """The identity that a hit tells, and the start of its frames."""
+    """Returns the identity of a PSS detection, and the start of its frames."""
     _, half, n1 = ranked(r, t, n2, rule)[0]
     return 3 * n1 + n2, (t - (10_432 if half else 832)) % FRAME
 
@@ -238,7 +238,7 @@ def reference_places(cell, slot, port, rule=ONE_PORT):
 
 
 def pilots_of(symbols, cell, slot, port, rule=ONE_PORT):
-    """What was seen at these places, and the pilots."""
+    """Returns the received values of these resource elements, and the pilots."""
     places = reference_places(cell, slot, port, rule)
     sent = {l: reference(cell, slot, l, rule.n_cp) for l, _ in places}
     there = [symbols[l][k] for l, k in places]
@@ -296,7 +296,7 @@ def pair_parts(h, g, a, b):
 
 
 def values_at(symbols, places, scrambling=None):
-    """The values of places, which are pairs of symbol and subcarrier, by the bits before scrambling."""
+    """Returns the values of resource elements (pairs of symbol and subcarrier), by the bits before scrambling."""
     values, count = [], len(symbols[0].channels) // 2
     if count == 0:
         for l, k in places:
@@ -318,19 +318,19 @@ CODED = np.array(
 
 
 def block_order(count):
-    """The order in which so many items leave the interleaver (TS 36.212 section 5.1.4.2.1)."""
+    """Returns the order in which this number of items leaves the interleaver (TS 36.212 section 5.1.4.2.1)."""
     rows = (count + 31) // 32
     cells = [32 * (row - rows) + column + count for column in COLUMNS for row in range(rows)]
     return [item for item in cells if item >= 0]
 
 
 def coded_reading(count):
-    """The places and streams of the coded bits of a word of so many bits (TS 36.212 section 5.1.4.2)."""
+    """Returns the positions and streams of the coded bits of a word of this length (TS 36.212 section 5.1.4.2)."""
     return [(place, stream) for stream in range(3) for place in block_order(count)]
 
 
 def added(values, reading, first=0):
-    """The sums of the values of each coded bit, by place and stream; the reading goes round, from this bit on."""
+    """Returns the sums of the values of each coded bit, by position and stream, read circularly from this bit."""
     sums = [[0] * 3 for _ in range(len(reading) // 3)]
     for i, value in enumerate(values):
         place, stream = reading[(first + i) % len(reading)]
@@ -350,7 +350,7 @@ def least(sums):
 
 
 def crc(number, count, polynomial=0x11021):
-    """The remainder of so many bits; CRC16 unless another is given (TS 36.212 section 5.1.1)."""
+    """Returns the remainder of this length; CRC16 unless another is given (TS 36.212 section 5.1.1)."""
     width = polynomial.bit_length() - 1
     number <<= width
     for i in reversed(range(count)):
@@ -373,7 +373,7 @@ class Refused(Exception):
 
 
 def elements(cell, groups):
-    """The places that carry bits, four of each group."""
+    """Returns the resource elements that carry bits, four of each group."""
     return [(l, j) for k, l in groups for j in range(k, k + (4 if l else 6)) if l or j % 3 != cell % 3]
 
 
@@ -467,7 +467,7 @@ def block_values(symbols, cell, cfi, first, count, rule=ONE_PORT):
 
 
 def turbo_reading(k, rv):
-    """The places and streams of coded bits from the start of a redundancy version on (TS 36.212 section 5.1.4.1)."""
+    """Returns positions and streams of coded bits from a redundancy version's start (TS 36.212 section 5.1.4.1)."""
     rows = (k + 35) // 32
     size, order = 32 * rows, [32 * row + column for column in COLUMNS[16:] + COLUMNS[:16] for row in range(rows)]
     buffer = [(i, 0) for i in order] + [pair for i in order for pair in ((i, 1), ((i + 1) % size, 2))]
@@ -575,7 +575,7 @@ def subframe_values(r, frame, cell, rule):
 
 
 def attempt(r, frame, cell, extended, resource, trace, rule):
-    """What one frame tells by its subframe 5: the bits of the block, and its lines."""
+    """Returns the result of one frame's subframe 5: the bits of the block, and its lines."""
     symbols = subframe_values(r, frame, cell, rule)
     cfi = indicator(symbols, cell)
     trace(f"indicator {cfi}")
@@ -590,7 +590,7 @@ def attempt(r, frame, cell, extended, resource, trace, rule):
 
 
 def system(r, entry, say, rule=ONE_PORT):
-    """The bits of the block that tells system information, and its lines; none, and why."""
+    """Returns the bits of the system information block, and its lines; otherwise nothing, and the reason."""
     start, cell, sfn, ports, block = entry
     if rule.unread:
         return None, f"sib1 none {rule.unread}"

@@ -113,7 +113,7 @@ class Program(Second):
 
 
 class Candidate(typing.NamedTuple):
-    """A coarse turn, the turn, the count of hits, and of the greatest fraction of them C, E and P."""
+    """A coarse offset, the offset, the count of PSS detections, and C, E and P at the maximum fraction."""
 
     coarse: int
     turn: int
@@ -124,7 +124,7 @@ class Candidate(typing.NamedTuple):
 
 
 def measures(x, t, wave):
-    """C, E and P of the primary signal at place t."""
+    """Returns C, E and P of the PSS at position t."""
     re = im = energy = 0
     for (a, b), (p, q) in zip(x[t : t + 128], wave):
         re += a * p + b * q
@@ -149,7 +149,7 @@ def prefixes(x, t):
 
 
 def rest(sums):
-    """The turn from -64 to 63 that fits the sum best; of equals the least in size, and then the lower."""
+    """Returns the offset from -64 to 63 that fits the sum best; among equals the smallest in magnitude, then the lower."""
     re, im = sums
     best = None
     for m in sorted(range(-64, 64), key=lambda m: (abs(m), m)):

@@ -69,7 +69,7 @@ def error_energy(samples, wave) -> int:
 
 
 class Sent:
-    """What the antenna ports of a described cell send, symbol by symbol."""
+    """The samples of a described cell's antenna ports, symbol by symbol."""
 
     def __init__(self, cell, carrier):
         self.cell, self.carrier, self.frames = cell, CARRIERS[carrier], {}
@@ -85,7 +85,7 @@ class Sent:
 
 
 class Excess(NamedTuple):
-    """The maximum error energy of a symbol as a fraction of what the premise allows."""
+    """The maximum error energy of a symbol as a fraction of the premise's limit."""
 
     slots: float
     signals: float
@@ -116,7 +116,7 @@ def excess(r, cell, carrier, rule, gains: Sequence[tuple[int, int]]):
 
 
 def fitted_gains(r, cell, carrier, rule):
-    """Returns the gains, one for each port, with the least error energy in the decoded slots together."""
+    """Returns the gains, one for each port, with the minimum error energy in the decoded slots together."""
     sent, waves, samples = Sent(cell, carrier), [], []
     for symbol in read_symbols(rule, cell):
         if is_decoded(rule, cell, symbol):

@@ -32,7 +32,7 @@ class Answer(NamedTuple):
 
 
 def indicator(cell, slots):
-    """Returns the control format indicator with the least cost (TS 36.212 section 5.3.4)."""
+    """Returns the control format indicator with the minimum cost (TS 36.212 section 5.3.4)."""
     values = values_at(slots, indicator_elements(cell), indicator_init(cell))
     zero = [np.arange(32) % 3 == cfi - 1 for cfi in (1, 2, 3)]
     return 1 + int(np.argmin([abs(values[(values < 0) == bits]).sum() for bits in zero]))
@@ -67,7 +67,7 @@ def grants_of(cell, sfn, slots, cfi):
 
 
 def block_sums(cell, slots, cfi, grant):
-    """Returns the sums of the values of each coded bit of a grant's block, by place and stream."""
+    """Returns the sums of the values of each coded bit of a grant's block, by position and stream."""
     elements = shared_elements(cell, cfi, grant.blocks)[: MOST_VALUES // 2]
     values = values_at(slots, elements, shared_init(cell))
     return added(values.tolist(), turbo_reading(grant.size + 24, grant.version))

@@ -13,7 +13,7 @@ MOST_SUM = 4_096  # of a coded bit, as the decoder takes it (own)
 
 
 class Try(NamedTuple):
-    """A frame's period of 80 ms, both slots of its subframe 5, and what they tell."""
+    """A frame's period of 80 ms, both slots of its subframe 5, and their result."""
 
     period: int
     slots: list
@@ -21,7 +21,7 @@ class Try(NamedTuple):
 
 
 def tries(recording, rate, cell, start, sfn):
-    """Yields the frames that are tried: those of even number of the first 16, as far as they are whole."""
+    """Yields the frames that are tried: even-numbered ones of the first 16 that are complete."""
     frames = min(16, ((len(recording) >> rate) - start) // FRAME)
     for j in range(sfn % 2, frames, 2):
         slots = slots_of(recording, rate, cell, start + FRAME * j)

@@ -32,7 +32,7 @@ class Grant(NamedTuple):
 
 
 def runs(count):
-    """Returns the number of ways to assign consecutive blocks out of so many."""
+    """Returns the number of ways to assign consecutive blocks out of all."""
     return count * (count + 1) // 2
 
 
@@ -42,7 +42,7 @@ def field_width(count):
 
 
 def run_of(count, value):
-    """Returns start and length of the assignment with a resource indication value, out of so many blocks."""
+    """Returns start and length of the assignment with a resource indication value, for this number of blocks."""
     start, length = value % count, value // count + 1
     return (start, length) if start + length <= count else (count - 1 - start, count + 2 - length)
 

@@ -75,7 +75,7 @@ def symbol_groups(cell, symbol):
 
 
 def group_elements(cell, group):
-    """Lists the four elements of a group; symbol 0 keeps those of ports 0 and 1 free, whatever the port count."""
+    """Lists the four elements of a group; symbol 0 keeps elements of ports 0 and 1 free, whatever the port count."""
     symbol, first = group
     every = range(first, first + span(cell, symbol))
     return [(symbol, k) for k in every if len(every) == 4 or k % 3 != cell.identity % 3]

@@ -45,7 +45,7 @@ FREE, REFERENCE, TAKEN = 0, 1, 2
 
 
 class Plan(NamedTuple):
-    """What a cell sends. `form` is 1A, 1Ad (distributed) or 1C; the candidate is `level` and first `element`; `start`
+    """A cell's signal. `form` is 1A, 1Ad (distributed) or 1C; the candidate is `level` and first `element`; `start`
     and `length` count (virtual) blocks; `gap` is 0 or 1; `column` is 2 or 3; `version` None follows the frame."""
 
     identity: int
@@ -329,7 +329,7 @@ class Frame:
 
 
 def rate_of(blocks):
-    """Returns the least r at which 128 * 2^r points hold the subcarriers."""
+    """Returns the minimum r at which 128 * 2^r points hold the subcarriers."""
     return next(r for r in range(5) if 12 * blocks < 128 << r)
 
 
@@ -429,7 +429,7 @@ def plan_of(args):
 
 
 def recording_of(plan, args):
-    """Returns the bytes of a recording; refuses what cannot be sent."""
+    """Returns the bytes of a recording; refuses a cell that cannot be sent."""
     rate = rate_of(plan.blocks) if args.rate is None else RATES.index(args.rate)
     fault = f"{args.rate} holds no {plan.blocks} blocks" if rate < rate_of(plan.blocks) else fault_of(plan)
     if fault:

@@ -86,7 +86,7 @@ def cell_of(plan):
 
 
 def elements_of(plan):
-    """Lists the elements of a grant's candidate, and those of its PDSCH."""
+    """Lists the elements of a grant's candidate, and of its PDSCH."""
     cell = cell_of(plan)
     blocks = tuple(tuple(sorted(slot)) for slot in physical_blocks(plan))
     return candidate_elements(cell, plan.cfi, plan.level, plan.element), shared_elements(cell, plan.cfi, blocks)

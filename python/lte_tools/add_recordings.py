@@ -33,7 +33,7 @@ def components(name: pathlib.Path) -> array.array[int]:
 
 
 def placed(numbers: array.array[int], before: int, count: int) -> array.array[int]:
-    """Returns the components with so many zeros before them, and behind them up to a count."""
+    """Returns the components with this number of zeros before them, and zeros after them up to a count."""
     return array.array("h", bytes(2 * before)) + numbers + array.array("h", bytes(2 * (count - before - len(numbers))))
 
 

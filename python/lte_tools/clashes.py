@@ -55,7 +55,7 @@ class Clash(Answer):
 
 
 class Pair(NamedTuple):
-    """What a window has of two cells."""
+    """The values of two cells in a window."""
 
     one: Seen | Detected
     other: Seen | Detected

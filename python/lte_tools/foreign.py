@@ -49,7 +49,7 @@ def read_input(most: int) -> bytes:
 
 
 def limited(file: BinaryIO, name: str, most: int) -> bytes:
-    """Returns what is left of a file; refuses more than `most` bytes."""
+    """Returns the rest of a file; refuses more than `most` bytes."""
     data = file.read(most + 1)
     if len(data) > most:
         raise Refused(f"{name}: more than {most:,} bytes: a shorter file is needed")
@@ -63,7 +63,7 @@ def shown(value: object) -> str:
 
 
 def delimiter_of(text: str) -> str:
-    """Returns what separates the fields of a CSV file: a comma, or if the head line has none a semicolon or a tab."""
+    """Returns the separator of the fields of a CSV file: a comma, or if the head line has none a semicolon or a tab."""
     head = text.partition("\n")[0]
     return next((one for one in ";\t" if one in head and "," not in head), ",")
 

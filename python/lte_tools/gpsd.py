@@ -38,7 +38,7 @@ class Receiver:
         self.thread.start()
 
     def read(self) -> None:
-        """Keeps the place of each line that has one."""
+        """Keeps the position of each line that has one."""
         try:
             with open(self.path, encoding="utf-8", errors="replace", opener=with_writer) as file:
                 while line := file.readline(SHOWN):
@@ -57,7 +57,7 @@ class Receiver:
             self.late.append(time.time() - place.time)
 
     def track(self) -> track.Track:
-        """Returns the places until now, in this machine's time; refuses if there are none."""
+        """Returns the positions until now, in this machine's time; refuses if there are none."""
         places, late = list(self.places), list(self.late)
         if not places:
             raise Refused(f"{self.path}: no place came from gpsd{f': {self.fault}' if self.fault else ''}")

@@ -1,4 +1,4 @@
-"""Distances on a round earth: a plane in metres about a place, and the metres between two places."""
+"""Distances on a round earth: a plane in metres about a position, and the metres between two positions."""
 from __future__ import annotations
 
 import math
@@ -8,7 +8,7 @@ DEGREE = 111_195  # metres of a degree of latitude on a round earth
 
 
 class Ground(NamedTuple):
-    """A plane on the earth, in metres east and north of a place."""
+    """A plane on the earth, in metres east and north of a position."""
 
     lon: float
     lat: float
@@ -25,7 +25,7 @@ class Ground(NamedTuple):
 
 
 def distance(one: tuple[float, float], other: tuple[float, float]) -> float:
-    """Returns the metres between two places, each a longitude and a latitude; for those up to some 100 km apart."""
+    """Returns the metres between two positions, each a longitude and a latitude; for those up to some 100 km apart."""
     between = Ground(one[0], (one[1] + other[1]) / 2)
     east, _ = between.metres(*other)
     return math.hypot(east, DEGREE * (other[1] - one[1]))

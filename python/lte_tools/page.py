@@ -65,6 +65,6 @@ def image(figure: Any, says: str, is_dense: bool = False) -> str:
 
 
 def details(name: str, value: object) -> str:
-    """Returns a part that is shown when it is opened: a text, or what a program wrote."""
+    """Returns a part that is shown when it is opened: a text, or a program's output."""
     shown = value if isinstance(value, str) else f"<pre>{text(json.dumps(value, indent=1, sort_keys=True))}</pre>"
     return f"<details><summary>{text(name)}</summary>{shown}</details>"

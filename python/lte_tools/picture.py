@@ -44,7 +44,7 @@ def survey_in(path: pathlib.Path) -> Survey | None:
 
 
 def drawn(given: PictureOptions, form: str) -> bytes:
-    """Returns the bytes of what is asked for."""
+    """Returns the bytes of the requested picture or page."""
     from . import picture_panels, picture_view, radio_file
     from .page import saved
 
@@ -58,7 +58,7 @@ def drawn(given: PictureOptions, form: str) -> bytes:
 
 
 def page_of_view(view: View, count: int) -> bytes:
-    """Returns a page with the picture of some seconds of a file, and what the programs wrote."""
+    """Returns a page with the picture of some seconds of a file, and the programs' output."""
     from . import picture_panels
     from .page import details, image, page, text
 

@@ -25,7 +25,7 @@ OTHERS = (("^", "#2f8f4e", "cell only after"), ("v", "#b8383d", "cell only befor
 
 
 def drawn(found: Difference, form: str) -> bytes:
-    """Returns the bytes of the map, with the table of the cells beside it."""
+    """Returns the bytes of the map, with the table of the cells next to it."""
     begin()
     places = [square.place for square in found.best]
     ground = ground_of(places)
@@ -41,7 +41,7 @@ def drawn(found: Difference, form: str) -> bytes:
 
 
 def ground_of(places: list[tuple[float, float]]) -> Ground:
-    """Returns the plane in the middle of all places."""
+    """Returns the plane in the middle of all positions."""
     return picture_map.ground_of([(0.0, *place) for place in places or [(0.0, 0.0)]])
 
 

@@ -98,7 +98,7 @@ def draw_waterfall(ax: Any, view: View, scale: float, centre: float) -> None:
 
 
 def draw_mean_spectrum(ax: Any, view: View, scale: float, centre: float) -> None:
-    """Draws the mean and the greatest power of each 15 kHz."""
+    """Draws the mean and the maximum power of each 15 kHz."""
     places = centre + view.seen.frequencies / scale
     greatest, mean = (10 * np.log10(part + 1e-20) for part in (view.seen.power.max(1), view.seen.power.mean(1)))
     ax.plot(greatest, places, ls=":", lw=0.9, color=COLOURS[5], label="maximum")

@@ -45,7 +45,7 @@ def fitted(text: str, width: int, rows: int = 2) -> str:
 
 
 def cut(text: str, count: int) -> str:
-    """Returns so many characters of a text: its front and its end."""
+    """Returns this number of characters of a text: its beginning and its end."""
     if len(text) <= count:
         return text
     front = count // 2

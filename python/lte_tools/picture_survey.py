@@ -133,7 +133,7 @@ def seen_of(cell: SurveyCell, found: Survey, key: str) -> tuple[Real, Real]:
 
 
 def draw_names(ax: Any, found: Survey, cells: Sequence[SurveyCell], strongest: Signs) -> None:
-    """Draws what the marks stand for."""
+    """Draws the meaning of the marks."""
     ax.axis("off")
     marked = [cell for cell in cells if id(cell) in strongest]
     for cell in sorted(marked, key=lambda cell: -(cell.level or 0)):

@@ -27,5 +27,5 @@ def lowest(blocks: int) -> int:
 
 
 def half_band(blocks: int) -> int:
-    """Returns the hertz that so many resource blocks take on either side of their carrier."""
+    """Returns the hertz that this number of resource blocks takes on either side of its carrier."""
     return SPACING * SUBCARRIERS * blocks // 2

@@ -22,7 +22,7 @@ TOPS = {"u8": 1, "s8": 127 / 128, "s16": 32_767 / 32_768, "f32": 1}
 
 @dataclass(frozen=True)
 class Recorded:
-    """What some seconds of a file are like."""
+    """Measurements of some seconds of a file."""
 
     rate: float
     seconds: float
@@ -43,7 +43,7 @@ class Recorded:
 
     @property
     def frequencies(self) -> Real:
-        """Hertz beside the file's centre, by the rows of `power`."""
+        """Hertz from the file's centre, by the rows of `power`."""
         found: Real = self.lowest + self.step * np.arange(len(self.power))
         return found
 
@@ -76,7 +76,7 @@ def is_level(values: Real, factor: float) -> bool:
 
 
 class Column(NamedTuple):
-    """What one part of the time is like."""
+    """Measurements of one part of the time."""
 
     power: Real  # by frequency
     total: complex  # of all samples

@@ -49,7 +49,7 @@ class Meta(NamedTuple):
 
 
 class NoMeta(Exception):
-    """A text does not have what SigMF demands."""
+    """A text does not meet SigMF's requirements."""
 
 
 def read(path: pathlib.Path) -> Meta:

@@ -71,7 +71,7 @@ class Ring:
             self.changed.notify_all()
 
     def drop(self) -> None:
-        """Skips what waits."""
+        """Discards the buffered samples."""
         with self.changed:
             self.skipped += len(self.windows)
             self.windows.clear()
@@ -139,7 +139,7 @@ class Reader:
         return self.begin == place
 
     def fill(self, size: int) -> None:
-        """Holds so many bytes, or all that there are."""
+        """Holds this number of bytes, or all that there are."""
         while len(self.held) < size and (data := self.more(size - len(self.held))):
             self.held += data
 

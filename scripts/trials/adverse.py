@@ -12,7 +12,7 @@ MOST = 256  # size of an element of traffic
 
 
 def elements(samples):
-    """What 128 samples have at each subcarrier."""
+    """Returns the value of each subcarrier of 128 samples."""
     return samples @ TURNS.conj().T / 128
 
 
@@ -44,7 +44,7 @@ class Slot:
             self.ports.append((*np.array(at).T, sent / abs(sent), line))
 
     def values(self, seen):
-        """Two values of each place, of symbols of 72 elements; further dimensions may stand before these."""
+        """Returns two values per resource element of symbols of 72 elements; further dimensions may precede these."""
         lines = [(seen[..., rows, columns] * sent.conj()) @ line.T for rows, columns, sent, line in self.ports]
         there = seen[..., self.rows, self.columns]
         if len(lines) == 1:
@@ -77,7 +77,7 @@ class Slot:
         return np.isin(numbers, [i for i, at in enumerate(coded_reading(40)) if at in own])
 
     def falling(self, seen, signs, first, count, angle):
-        """The values that fall most where so many pilots of each lower port are turned."""
+        """Returns the values that fall most if this number of pilots of each lower port is turned."""
         turned = seen.copy()
         for rows, columns, *_ in self.ports[:2]:
             turned[rows[first:][:count], columns[first:][:count]] *= np.exp(1j * angle)

@@ -64,7 +64,7 @@ def said(words, data):
 
 
 def sent(program, carrier, plan, gains):
-    """What all ports send, each with its gain."""
+    """Returns the sum of all ports' samples, each times its gain."""
     loud = {**plan, **{key: [gain, 0] for key, gain in zip(KEYS, gains)}}
     if program == "second":
         return second_cell.sent(loud, {2: "two", 4: "four"}[carrier.ports]) @ (1, 1j)
@@ -90,7 +90,7 @@ def drawn(carrier, seed):
 
 @functools.cache
 def each_sent(program, carrier, seed):
-    """What each port of the cell sends."""
+    """Returns the samples of each port of the cell."""
     cell, sfn, offset, *_ = drawn(carrier, seed)
     plan = {**PLAIN, "identity": cell, "sfn": sfn, "offset": offset, "samples": 5 * radio.FRAME}
     alone = [carrier.gain] + [0] * (carrier.ports - 1)

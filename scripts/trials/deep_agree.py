@@ -54,7 +54,7 @@ FRAMES = 103  # that are sent of a cell: a second and a frame at either end
 
 
 class Trial(NamedTuple):
-    """A recording's bytes, the arguments, and what is in it."""
+    """A recording's bytes, the arguments, and its content."""
 
     data: bytes
     words: tuple
@@ -84,7 +84,7 @@ def cell_of(draw, length):
 
 
 def cells_of(draw, length, levels):
-    """Returns the sum of a cell at each of these levels, and what it has."""
+    """Returns the sum of a cell at each of these levels, and its content."""
     total, names = np.zeros(length, complex), []
     for level in levels:
         samples, identity = cell_of(draw, length)
@@ -94,7 +94,7 @@ def cells_of(draw, length, levels):
 
 
 def signals_of(draw, kind, length):
-    """Returns what is received in a recording of this kind, and what it has."""
+    """Returns the received samples of a recording of this kind, and its content."""
     if kind == "noise":
         return deep_levels.noise(draw, length), kind
     if kind == "interference":
@@ -108,7 +108,7 @@ def signals_of(draw, kind, length):
 
 
 def samples_of(draw, kind, length):
-    """Returns the samples of a recording, and what it has."""
+    """Returns the samples of a recording, and its content."""
     if kind in ("zeros", "equal"):
         return np.zeros((length, 2), np.int64) + (draw.integers(-9_000, 9_000, 2) if kind == "equal" else 0), kind
     signals, plan = signals_of(draw, kind, length)
@@ -118,7 +118,7 @@ def samples_of(draw, kind, length):
 
 
 def length_of(draw, kind):
-    """Returns the number of samples: seldom more than those of --deep without a word."""
+    """Returns the number of samples: seldom more than `--deep` reads without `all`."""
     if kind == "long":
         return MOST + int(draw.integers(2))
     most = deep.KEPT if draw.random() < 0.85 else deep.KEPT * 2 if draw.random() < 0.8 else MOST
@@ -164,7 +164,7 @@ def answer_to(trial):
 
 
 def kept(trial, seed, folder):
-    """Returns what `answer_to` does, from the trial's file in the folder if it is there."""
+    """Returns the result of `answer_to`, from the trial's file in the folder if it is there."""
     digest = hashlib.sha256(trial.data + " ".join(trial.words).encode()).hexdigest()[:12]
     file = folder and folder / f"{seed}-{digest}.json"
     if file and file.is_file():
@@ -176,7 +176,7 @@ def kept(trial, seed, folder):
 
 
 def compared(seed, program, answers):
-    """Returns the seed's difference, or nothing, its trial, and what to count."""
+    """Returns the seed's difference, or nothing, its trial, and the items to count."""
     trial, counts = trial_of(seed), collections.Counter()
     code, text, count = code_of(trial), "", 0
     if code == 0:

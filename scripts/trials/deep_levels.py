@@ -45,7 +45,7 @@ def pool_of(halves, load):
 
 
 def late(draw, samples, delay, length):
-    """Returns so many samples of a cell whose first frame begins at a fraction of a sample, with any phase."""
+    """Returns samples of a cell whose first frame begins at a fraction of a sample, with any phase."""
     turns = np.exp(-2j * np.pi * np.fft.fftfreq(len(samples)) * delay + 2j * np.pi * draw.random())
     return np.fft.ifft(np.fft.fft(samples) * turns)[:length]
 
@@ -105,7 +105,7 @@ def repeated(draw, length, period):
 
 
 def impulses(draw, length, places):
-    """Returns noise with bursts 40 dB above it at these places."""
+    """Returns noise with bursts 40 dB above it at these positions."""
     return noise(draw, length) + 100 * places * noise(draw, length)
 
 
@@ -149,7 +149,7 @@ KINDS = {
 
 
 def expected(candidates, least):
-    """Returns how many candidates match in so many signs, if each sign is a coin."""
+    """Returns how many candidates match in this number of signs, if each sign is a coin toss."""
     return candidates * 336 * sum(math.comb(124, k) for k in range(least, 125)) / 2**124
 
 

@@ -55,13 +55,13 @@ def decibels(identity, second):
 
 
 def cell_of(name, **keys):
-    """A described cell (scripts/examples), with other values of keys; those of `sib1` come to its own."""
+    """Returns a described cell (scripts/examples) with other values of keys; values of `sib1` are merged."""
     cell = json.loads((packages.TOP / f"scripts/examples/{name}.json").read_text())
     return {**cell, **keys, "sib1": {**cell["sib1"], **keys.get("sib1", {})}}
 
 
 def wave(cell, later=0, *words):
-    """All frames of a cell in the order of their numbers, as of a gain of 1, so many samples later."""
+    """Returns all frames of a cell in the order of their numbers, at a gain of 1, delayed by this number of samples."""
     command, parts = [machine.program("lte_cli"), "transmit", *words], []
     for first in range(0, CYCLE, FRAMES):
         samples = min(FRAMES, CYCLE - first) * radio.FRAME
@@ -133,7 +133,7 @@ def surveyed(room):
 
 
 def faults(found, points):
-    """What the survey and its points tell else than what was put in."""
+    """Yields the differences between the survey with its points and the sent cells."""
     sure = sorted(cell["identity"] for cell in found["cells"] if not cell["chance"])
     if sure != sorted(SITES):
         yield f"cells {sure}"

@@ -31,7 +31,7 @@ EDGES = [*range(11), *range(19_189, 19_200), *range(667, 706), *range(10_267, 10
 
 
 def said(words, data):
-    """What lte_cli writes, or nothing where it refuses."""
+    """Returns the output of lte_cli, or nothing if it refuses."""
     done = subprocess.run([machine.program("lte_cli"), *words], input=data, capture_output=True, check=False)
     return done.stdout if done.returncode == 0 else None
 
@@ -68,7 +68,7 @@ def hardly_resolved(draw, plan):
 
 
 def transmitted(carrier, described, load=None, gains=((1, 0),)):
-    """What `transmit` sends, or nothing where it refuses."""
+    """Returns the output of `transmit`, or nothing if it refuses."""
     plan = {**described, **dict(zip(GAINS, gains))}
     words = ["transmit", *WORDS[carrier], *([] if load is None else ["--load", str(load)])]
     data = said(words, json.dumps(plan).encode())
@@ -82,7 +82,7 @@ def early(described):
 
 
 def sent(carrier, described, load=None):
-    """What each antenna port sends, from LATEST samples before the recording on, or nothing where it is refused."""
+    """Returns the samples of each antenna port, from LATEST samples before the recording, or nothing if refused."""
     described, before = early(described)
     count = second_search.RULES[WORDS[carrier]].ports
     first = ((1, 0),) + ((0, 0),) * (count - 1)
@@ -140,7 +140,7 @@ def clipped(samples):
 
 
 def energy(samples, values):
-    """The energy of what whole samples are off by from values in parts, in the square of parts."""
+    """Returns the energy of the difference between integer samples and values in parts, in squared parts."""
     off = PARTS * samples - values
     return int((off.real.astype(np.int64) ** 2 + off.imag.astype(np.int64) ** 2).sum())
 

@@ -38,7 +38,7 @@ def cell(random):
 
 
 def noisy(random, samples, ratio, edge):
-    """The samples with noise of this ratio, up to so many kHz, as the bytes of a recording."""
+    """Returns the samples with noise of this ratio, up to this frequency in kHz, as the bytes of a recording."""
     power = 16_200 * (GAIN[0] ** 2 + GAIN[1] ** 2) / 10 ** (ratio / 10)
     spectrum = np.fft.fft(random.normal(0, power**0.5, samples.shape) @ (1, 1j))
     spectrum[abs(np.fft.fftfreq(len(samples), 1 / 1920)) > edge] = 0
@@ -47,7 +47,7 @@ def noisy(random, samples, ratio, edge):
 
 
 def outcome(program, recording, found):
-    """Whether a hit tells the cell, and the count of frames of its entry, or 0."""
+    """Returns whether a PSS detection gives the cell, and the frame count of its entry, or 0."""
     ids = [line.split() for line in run(program, ["ids"], recording).decode().splitlines()[1:]]
     entries = [line.split() for line in run(program, ["evidence"], recording).decode().splitlines()[1:]]
     counts = [int(entry[entry.index("frames") + 1]) for entry in entries if entry[:3] == found]

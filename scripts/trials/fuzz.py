@@ -128,7 +128,7 @@ def wanted_codes(given):
 
 
 def faults(given, ending):
-    """What docs/FORMATS.md does not allow, in words."""
+    """Yields violations of docs/FORMATS.md, in words."""
     code = ending.code
     if code < 0:
         yield f"signal {-code}"

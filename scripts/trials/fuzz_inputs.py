@@ -96,7 +96,7 @@ def words(random, command):
 
 
 def rate_words(random):
-    """None, those of a rate, or some that are nearly so."""
+    """Returns no arguments, the arguments of a rate, or nearly valid ones."""
     bad = random.choice([["--rate"], ["--rate", "2.4"], ["--rate", "1.920"], ["3.84"], ["--rate", "3.84", "--json"]])
     return random.choices([[], ["--rate", random.choice(list(RATES))], bad], [80, 18, 2])[0]
 
@@ -109,7 +109,7 @@ def rate_of(given):
 
 
 def load_words(random):
-    """None, those of a load, or some that are nearly so."""
+    """Returns no arguments, the arguments of a load, or nearly valid ones."""
     number = str(random.choice([0, 7, 2**31, 2**32 - 1, random.randrange(2**32)]))
     bad = random.choice(["", "-1", "+1", "07", str(2**32), "1e3", "9" * 1000, "--load"])
     near = [["--load"], ["--load", bad], ["--load", number, number], [number], ["--load", number, "--ports", "4"]]
@@ -203,7 +203,7 @@ def changed_numbers(random, data):
 
 
 def spliced(random, data, other):
-    """A piece of another recording, of noise or of zeros in the place of one of its own."""
+    """Replaces a piece of the recording by noise, zeros or a piece of another recording."""
     length = 4 * random.choice([1, 9, 128, 137, 960, 9600, 19200])
     at = 4 * random.randrange(max(1, (len(data) - length) // 4))
     piece = random.choice([bytes(length), random.randbytes(length), full_scale(random, length // 4), other[:length]])
@@ -233,7 +233,7 @@ def whole_recording(random, sent):
 
 
 def as_bytes(data):
-    """The recording as 8-bit numbers, of its greatest size (`cu8`)."""
+    """Returns the recording as 8-bit numbers at maximum magnitude (`cu8`)."""
     numbers = array.array("h", data[: len(data) // 2 * 2])
     factor = 127 / max(1, max(map(abs, numbers), default=1))
     return bytes(int(128 + factor * number) for number in numbers) + data[len(data) // 2 * 2 :]
@@ -377,7 +377,7 @@ FURTHER_GAINS = ("gain2", "gain3", "gain4")
 
 
 def with_gains(random, value, ports):
-    """The description for so many antenna ports, mostly with gains that fit."""
+    """Returns the description for this number of antenna ports, mostly with gains that fit."""
     pick, reach = random.randrange, {1: 19, 2: 9, 4: 4}[ports]
     value = {key: value[key] for key in value if key not in FURTHER_GAINS}
     further = FURTHER_GAINS[: ports - 1]
@@ -388,7 +388,7 @@ def with_gains(random, value, ports):
 
 
 def description(random, shown, ports=1):
-    """One, spoiled or not, mostly for so many antenna ports."""
+    """Returns a description, spoiled or not, mostly for this number of antenna ports."""
     chance = random.random()
     value = random.choice(shown) if random.random() < 0.5 else valid_description(random)
     likely = ports if random.random() < 0.93 else random.choice([1, 2, 4])

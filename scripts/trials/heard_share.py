@@ -133,7 +133,7 @@ def recording(kind, seed, carrier=None):
 
 
 def tried(kind, seed, carrier=None):
-    """Returns the row of a recording: conditions, parts, what is listed, and seconds."""
+    """Returns the row of a recording: conditions, parts, listed cells, and seconds."""
     began = time.monotonic()
     name, cell, air, data, r = recording(kind, seed, carrier)
     made = time.monotonic()
@@ -144,7 +144,7 @@ def tried(kind, seed, carrier=None):
 
 
 def groups(rows):
-    """Returns pairs of a name and a part of the rows: all, and those of each value of a condition."""
+    """Returns pairs of a name and a part of the rows: all rows, and the rows with each value of a condition."""
     found = [("all", rows)]
     for key, text in KEYS.items():
         steps = STEPS.get(key)

@@ -65,7 +65,7 @@ class Trial:
             self.samples = self.received()
 
     def send(self):
-        """A random cell, what its ports send, and the symbols that the list looks at."""
+        """Draws a random cell, its ports' samples, and the symbols that the list reads."""
         ports = None
         while ports is None:
             self.described = faithful.drawn(self.draw)
@@ -117,7 +117,7 @@ class Trial:
     # ---- what stands elsewhere
 
     def elsewhere(self):
-        """What the recording holds where the list does not look."""
+        """Returns the samples where the list does not read."""
         count, fill = self.described["samples"], "zeros" if self.is_beyond else self.draw.choice(FILLS)
         own = np.round(self.gains @ self.ports / PARTS)[LATEST:]
         if fill == "noise":
@@ -182,12 +182,12 @@ class Trial:
                 yield view, weights, symbols, seen
 
     def sent(self, symbol, late=0):
-        """What each port sends of a symbol, with a delay."""
+        """Returns each port's samples of a symbol, with a delay."""
         first = LATEST + symbol.start - late
         return self.ports[:, first : first + 128]
 
     def flat(self, symbol):
-        """What is received of it by one gain for each port, in parts."""
+        """Returns the received symbol with one gain for each port, in parts."""
         return self.gains @ self.sent(symbol)
 
 
@@ -230,7 +230,7 @@ def by_offset(trial):
 
 
 def leak(trial, turns):
-    """Puts elements where the cell leaves places open that leak most against the values that are attacked."""
+    """Puts elements in the cell's open resource elements that leak most against the attacked values."""
     rows = {}
     for view, weights, symbols, seen in trial.attacked({s: trial.flat(s) * turns[s] for s in trial.symbols}):
         slope = view.slope(seen, weights)
@@ -360,7 +360,7 @@ def tried(name, seeds):
 
 
 def first_lost(name, count, counts):
-    """Of so many seeds prints that which is lost at the least number, by faults that count, and gives its fault."""
+    """Prints the seed that is lost at the minimum number, by faults that count, and returns its fault."""
 
     def lost(times):
         fault = Trial(name, seed, times).fault()

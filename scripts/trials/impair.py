@@ -72,7 +72,7 @@ class Sent:
         return " ".join([identity, *others]) == self.line and abs(int(at) - self.start) <= NEAR
 
     def has_hit(self, places):
-        """Whether a hit is where the primary signal of subframe 0 or 5 stands."""
+        """Returns whether a PSS detection is at the PSS of subframe 0 or 5."""
         return any(
             n2 == self.half and min((t - self.start - 832) % 9_600, (self.start + 832 - t) % 9_600) <= NEAR
             for t, n2 in places
@@ -156,7 +156,7 @@ def corrected(program):
 
 
 def conditions(program):
-    """Pairs of a name and what is done, for an almost empty carrier and for a full one."""
+    """Returns pairs of a name and an impairment, for an almost empty carrier and for a full one."""
     tuned = corrected(program)
     both = [("as it is", [])]
     both += [(f"offset {h} Hz", [turned(h)]) for h in (300, 500, 700, 1000, 1250, 1500, 2000, 5000)]

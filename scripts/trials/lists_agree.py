@@ -57,7 +57,7 @@ def said(words, data):
 
 
 def compared(case):
-    """Of a recording: the rules whose lists differ, how many lists hold an entry, and how many one of added frames."""
+    """Returns the rules whose lists differ, the number of lists with an entry, and with one of added frames."""
     kind, seed = case
     data = recording(kind, seed)
     differ, some = [], 0

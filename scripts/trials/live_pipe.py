@@ -30,7 +30,7 @@ STOPPED = 15  # seconds after which a stream is stopped
 
 
 def memory(leader):
-    """The megabytes that the processes of a session hold, what they share counted once."""
+    """Returns the megabytes that the processes of a session hold; shared memory is counted once."""
     total = 0
     for process in pathlib.Path("/proc").glob("[0-9]*"):
         try:
@@ -42,7 +42,7 @@ def memory(leader):
 
 
 class Followed:
-    """A survey that reads files at the radio's rate, on two processors, and what it writes into a folder."""
+    """A survey at the radio's rate, on two processors, with its output in a folder."""
 
     def __init__(self, files, room):
         self.table, self.lines = room / "table", room / "lines"

@@ -82,7 +82,7 @@ def entries(text):
 
 
 def is_clear(samples, place):
-    """Whether `evidence` tells of the entry at a place the numbers of a clean cell."""
+    """Returns whether `evidence` prints the numbers of a clean cell for the entry at a position."""
     lines = [line.split() for line in said(["evidence"], samples).split("\n")[1:]]
     listed = next(line for line in lines if line[:3] == place)
     numbers = {name: int(value) for name, value in zip(listed[3::2], listed[4::2])}

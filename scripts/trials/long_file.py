@@ -54,7 +54,7 @@ def cycles():
 
 
 def at_rate(x):
-    """The cycle resampled, its end before its front and its front behind it."""
+    """Returns the resampled cycle, with its end in front and its beginning after it."""
     edge = radio.FRAME
     x = signal.resample_poly(np.concatenate([x[-edge:], x, x[:edge]]), 5, 4)
     return x[edge * 5 // 4 : -edge * 5 // 4].astype(np.complex64)

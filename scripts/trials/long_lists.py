@@ -57,7 +57,7 @@ def lines_said(words, data):
 
 
 def certificates(data):
-    """Of certificates the values, the word and the cost of each."""
+    """Returns the values, the word and the cost of each certificate."""
     found, at = [], 0
     while at < len(data):
         found.append((*struct.unpack_from("<120h", data, at + 4), data[at + 244 : at + 249], data[at + 249 : at + 253]))
@@ -73,7 +73,7 @@ def certified(r, entry, read):
 
 
 def parts(lines):
-    """What `search --all` writes, by the names of its rules."""
+    """Returns the output of `search --all`, by the names of its rules."""
     found = {}
     for line in lines:
         word, *name = line.split()

@@ -55,7 +55,7 @@ class OnAir:
         self.own, self.every = self.grid.any(2)[:, :6], self.taken[:, :6].copy()
 
     def pair(self, number, x, y):
-        """Returns what the port sends of a pair."""
+        """Returns the port's symbols of a pair."""
         return [np.array(point) / np.sqrt(2) for point in super().pair(number, x, y)]
 
     def elements(self, load, draw):

@@ -7,7 +7,7 @@ TOP = pathlib.Path(__file__).resolve().parents[2]
 
 
 def add():
-    """Makes lte_tools and lte_reference importable here and in what is started."""
+    """Makes lte_tools and lte_reference importable here and in started programs."""
     sys.path.append(str(TOP / "python"))
     os.environ["PYTHONPATH"] = str(TOP / "python")
 

@@ -29,7 +29,7 @@ SUBCARRIERS = np.r_[-36:0, 1:37]
 
 
 class Row(NamedTuple):
-    """What is put in: Es/N0 in dB, an echo's samples and dB, and an offset in hertz."""
+    """The input: Es/N0 in dB, an echo's samples and dB, and an offset in hertz."""
 
     ratio: float
     later: int = 0
@@ -79,7 +79,7 @@ def from_evidence(program, sent, put):
 
 
 def from_survey(sent, put):
-    """Those of the survey."""
+    """Returns the values of the survey."""
     data = radio.to_bytes(put.samples)
     file = radio_file.RadioFile(pathlib.Path("-"), "s16", radio.RATE, len(put.samples), 0, 0, held=data)
     for one in sightings.sightings(sightings.Task(file, 0, file.seconds)):
@@ -89,7 +89,7 @@ def from_survey(sent, put):
 
 
 def text_of(given, wanted):
-    """The mean, and the greatest distance from what was put in."""
+    """Returns the mean, and the maximum distance from the input."""
     values = [(value, right) for value, right in zip(given, wanted) if value is not None]
     if not values:
         return "- | -"

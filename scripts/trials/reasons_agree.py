@@ -39,7 +39,7 @@ def recording(seed):
 
 
 def compared(seed):
-    """Returns what differs for a recording, and the rules that were reasons."""
+    """Returns the differences for a recording, and the rules that were reasons."""
     data, sent = recording(seed)
     draw = np.random.default_rng([seed, 94])
     rule = lists_agree.RULES[int(draw.integers(len(lists_agree.RULES)))]

@@ -63,7 +63,7 @@ WIDE = "--identity 301 --width 50 --ports 2 --snr 15 --frames 4 --out"
 
 
 class Inputs:
-    """The valid inputs that scripts/forms.txt names, each made once; in place of that of zeros the cell's certificate."""
+    """The valid inputs that scripts/forms.txt names; the cell's certificate replaces the one of zeros."""
 
     def __init__(self, program, room):
         self.program, self.room, self.known = program, pathlib.Path(room), {"nothing": b""}
@@ -99,7 +99,7 @@ def is_of_tuner(words):
 
 
 def runs(program, tuner, room):
-    """Each program, words and input of the list; of the pages those of both programs."""
+    """Yields each program, arguments and input of the list; for the pages, of both programs."""
     inputs = Inputs(program, room)
     for one in form_list.examples():
         words, data = one.words.split(), inputs.named(one.given)
@@ -111,7 +111,7 @@ def runs(program, tuner, room):
 
 
 def refusals(program, shim, words, data):
-    """How many growths the form has, and what was found."""
+    """Returns the number of growths that the form has, and the faults."""
     whole, found = run(program, words, data), []
     if whole[0] != 0:
         return 0, [f"code {whole[0]} without a refusal"]

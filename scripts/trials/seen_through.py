@@ -49,7 +49,7 @@ class Group(NamedTuple):
     kap: Fraction  # of signals none
 
     def share(self, u):
-        """How much of the limit of (I), or of that of the signals, is used."""
+        """Returns the used fraction of limit (I), or of the signals' limit."""
         rho, kap = self.rho, self.kap
         if kap is None:
             return ((2 + rho) * u + u**2 / FAR) / (FAR * (1 - rho)) if rho < 1 else Fraction(99)
@@ -57,7 +57,7 @@ class Group(NamedTuple):
         return ((128 * kap + u) ** 2 / 12150 + 128 * rho + by_u) / 90
 
     def share_with(self, limits):
-        """The same by the greatest energy of the errors of each symbol."""
+        """Returns the used fraction by the maximum error energy of each symbol."""
         return self.share(
             max(
                 SENDING * root(Fraction(square(gain), self.least))
@@ -99,14 +99,14 @@ def of_slot(gains):
 
 
 def of_signals(gains):
-    """The secondary signal and the primary one, which may stand alone."""
+    """Returns the SSS and the PSS; the PSS may be alone."""
     secondary, primary = [*gains.values()][0], [*gains.values()][-1]
     away = root(Fraction(square(secondary - primary), square(primary)))
     return Group(gains, min(map(square, gains.values())), away, None)
 
 
 def groups(gains):
-    """Those of the symbols that are read, by their gains."""
+    """Returns the limits of the decoded symbols, by their gains."""
     found = []
     for key, symbols in itertools.groupby(gains, key=lambda s: (s.frame, s.slot, s.slot != 11 and s.number >= 5)):
         found.append((of_signals if key[2] else of_slot)({symbol: gains[symbol] for symbol in symbols}))

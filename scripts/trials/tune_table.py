@@ -26,7 +26,7 @@ NOISES = (20, 10, 5, 3, 0)
 
 
 def applied(program, x):
-    """What the tuning program writes for a recording."""
+    """Returns the output of the tuning program for a recording."""
     done = subprocess.run([program, "apply"], input=radio.to_bytes(x), stdout=subprocess.PIPE, check=True)
     return radio.from_bytes(done.stdout)
 

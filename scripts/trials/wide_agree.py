@@ -56,7 +56,7 @@ REFUSALS = {3: "ragged", 4: "too short", 5: "too long"}
 
 
 class Trial(NamedTuple):
-    """A recording's bytes, the arguments, and what is in it."""
+    """A recording's bytes, the arguments, and its content."""
 
     data: bytes
     words: tuple
@@ -94,7 +94,7 @@ def plan_of(draw, blocks):
 
 
 def rate_for(draw, blocks):
-    """Returns the lowest rate that holds so many blocks, or sometimes a higher one."""
+    """Returns the lowest rate that holds this number of blocks, or sometimes a higher one."""
     least = wide_sender.rate_of(blocks)
     return least if draw.random() < 0.75 else int(draw.integers(least, 5))
 
@@ -141,7 +141,7 @@ def words_of(draw, plan, rate, has_bytes):
 
 
 def data_of(samples, has_bytes):
-    """Returns the bytes of samples, of 8 bits each if so asked: a byte v stands for 2 v - 255."""
+    """Returns the bytes of samples, of 8 bits each if asked: a byte v is the value 2 v - 255."""
     if has_bytes:
         return np.clip((samples // 16 + 255) // 2, 0, 255).astype("u1").tobytes()
     return samples.astype("<i2").tobytes()
@@ -214,7 +214,7 @@ def first_difference(one, other):
 
 
 def compared(seed, program):
-    """Returns the seed's difference, or nothing, and what to count."""
+    """Returns the seed's difference, or nothing, and the items to count."""
     trial, counts = trial_of(seed), collections.Counter()
     done = subprocess.run([program, *trial.words], input=trial.data, capture_output=True, check=False)
     code, text, lines = code_of(trial), "", []

@@ -75,7 +75,7 @@ def plan_for(draw, blocks, ports, form):
 
 
 def received(draw, plan, level, sfn, frames):
-    """Returns the samples of frames, or of subframes 4 to 6 of one, behind LEAD samples and a fraction."""
+    """Returns the samples of frames, or of subframes 4 to 6 of one, after LEAD samples and a fraction."""
     rate = wide_sender.rate_of(plan.blocks)
     if frames == 1:
         waves = wide_sender.Frame(plan, sfn, draw, (4, 5, 6)).samples(rate)
@@ -118,7 +118,7 @@ def outcome_of_program(draw, plan, level, program, frames):
 
 
 def outcomes(draw, blocks, ports, level, count, program, frames):
-    """Yields what is read of so many cells by each format."""
+    """Yields the outcome of this number of cells for each format."""
     for form in FORMS * count:
         plan, cell = plan_for(draw, blocks, ports, form)
         yield outcome_of_program(draw, plan, level, program, frames) if program else outcome(draw, plan, cell, level)

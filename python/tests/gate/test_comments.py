@@ -1,7 +1,7 @@
 """The rules of comments."""
 import pytest
 
-from lte_gate import comments, english
+from lte_gate import comments, english, python_texts
 
 
 @pytest.mark.parametrize(
@@ -43,3 +43,54 @@ def test_rules(text, kinds):
 def test_comments_that_need_the_one_above(comment, leans):
     assert english.leans(comment) is leans
     assert bool(list(comments.leaning(f"-- {comment}\n"))) is leans
+
+
+@pytest.mark.parametrize(
+    "text, marks",
+    (
+        ("Returns the remaining offset in hertz.", []),
+        ("Returns what is left.", ["says what"]),
+        ("Says what if a file is empty.", []),
+        ("The field `told`, at least twice.", []),
+        ("Cells that are taken off, so many.", ["says taken off", "says so many"]),
+        ("Of two ports the second.", ["has a fronted Of"]),
+        ("word " * 40, ["has 40 words in its first sentence"]),
+    ),
+)
+def test_marks_of_a_text_of_python(text, marks):
+    assert english.marks_of(text) == marks
+
+
+def test_texts_of_python_are_docstrings_helps_and_refusals():
+    source = '''"""A module."""
+
+
+class A:
+    """A class."""
+
+    def f(self, x):
+        """A function."""
+        y = "no text"
+        raise Refused(f"{x}: a refusal")
+
+
+made = argparse.ArgumentParser("name", description="a description", epilog="an end")
+made.add_argument("--list", help="a help" " in two parts")
+sys.exit("an end of " + "the program")
+'''
+    assert [text for _, text in python_texts.texts_of(source)] == [
+        "A module.",
+        "A class.",
+        "A function.",
+        "`..`: a refusal",
+        "a description",
+        "an end",
+        "a help in two parts",
+        "an end of the program",
+    ]
+
+
+def test_a_budget_may_not_be_exceeded(monkeypatch):
+    monkeypatch.setattr(english, "BUDGETS", {"a": 2})
+    assert not english.budget_faults("a", 2)
+    assert english.budget_faults("a", 3) == ["a: 3 marked texts, 2 are allowed (--list prints them)"]
