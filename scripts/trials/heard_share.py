@@ -91,7 +91,7 @@ def is_near(entry, cell):
 
 
 def near_fault(name, cell, listed, shifts, is_whole):
-    """Returns what the promise about a cell that is nearest at these shifts lacks in a list, or nothing."""
+    """Returns the part of the promise for a cell that is nearest at these shifts that a list does not meet, or nothing."""
     keys = wanted(name, cell, is_whole)
     for entry in listed:
         its = heard.later(cell, (entry["at"] - heard.start_of(cell) + FRAME // 2) % FRAME - FRAME // 2)
