@@ -14,42 +14,23 @@ survey.py SURVEY.json [--plan CSV] [--clashes DB] [--coverage LEVEL,RATIO] [--cs
 survey.py SURVEY.json [--servers] [--grid M] [--pollution N] [--neighbours] [--classes]
 rtl_sdr -f 796e6 -s 1.92e6 - | survey.py - --form u8 --rate 1.92e6 --follow
 
-One table of the cells in a radio's file of any length: identity, when it was first and last seen and in how many
-windows, master block, SIB1, the greatest level, signal to noise, and the frequency offset. `?` marks what chance
-explains, and with a word what is doubtful. docs/RECORDINGS.md, "A whole file", says what each column is.
+Prints one line for each LTE cell in a radio's file of any length: identity, MIB, SIB1, level, signal-to-noise ratio,
+frequency offset, and the windows that list it. `?` marks a cell that chance explains, and a doubtful one has a word.
+docs/RECORDINGS.md, "A whole file", describes each column.
 
-The file is read in windows of 17 frames, as far as a list looks, one after the other or every S seconds. Each becomes
-a recording as to_ci16.py makes it. `lte_tune tell` tells the offset of the strongest window and of some along the
-file, and of more where it drifts; between them it is a straight line. `lte_cli evidence --all` lists the cells of each
-window, one process a processor; by the pilots that it writes (pilots.py) the rest of the offset is corrected, and each
-cell has its own. `lte_cli search --rate` reads SIB1 of cells of any bandwidth that the file holds (wide.py). Lines are
-one cell where identity, frame numbers and offset fit, and one with an echo where they come within 40 samples; samples
-that are missing, a radio that was restarted, and a generator's loop are stated below the table. Where no cell is sure,
-I and Q are tried exchanged. Where the noise and all cells step together, the radio's gain has changed: levels are those
-at the first gain. --gain states it, as -20, or by time, as 0:-20,14:-14: dBFS of a signal of 0 dBm from second 0 and
-from second 14. Steps are not searched for then.
+The file is read in windows of 17 frames, one after the other or every S seconds. `lte_tune tell` estimates the
+frequency offset, `lte_cli evidence --all` lists the cells of each window, and `lte_cli search --rate` reads SIB1 at any
+bandwidth that the file holds. Lines are one cell if identity, frame numbers and offset fit. Missing samples, a restarted
+radio and a repeated recording are stated below the table. If noise and cells step together, the radio's gain has
+changed, and levels are those at the first gain; with --gain (-20, or by time 0:-20,14:-14: dBFS of a signal of 0 dBm)
+steps are not searched for. If no cell is certain, I and Q are also tried exchanged.
 
-Several files are one drive, in the order of their times, which SigMF, the header of a WAV file or the names have; what
-is missing between them is stated below the table. With --track each window gets the place of its time: the file's time
-is SigMF's, or that of --start, of the header or of the name. --gpsd reads places from gpsd, for - from a named pipe.
---html writes a page with the table, which sorts, the cells over time, and a map where there are places. --pcap writes
-the blocks of MIB and SIB1 for Wireshark (pcap.py). --deep adds cells far below the strongest one, which `lte_cli ids
---deep` detects over many half-frames, and of which the identity alone is known (identities.py). --scan looks at each
-carrier of the 100 kHz raster in the file. Standard input (-) is looked at as it comes, until it ends or a signal comes;
-a radio may begin again. With --follow a named pipe waits for its next writer.
+Several files are one drive, in the order of their times, which SigMF, a WAV header or the names have. --track and --gpsd
+give places by time. Standard input (-) is read as it comes. A survey that --json wrote (.json) may be given in place of
+samples; it takes the options that need none.
 
---resume keeps a journal of all answers: a survey that was stopped goes on there, and --so-far prints what is done. --part
-looks at some windows for a job array, and --join makes one survey of the journals of all parts. --dask asks the workers of
-a Dask scheduler. docs/CAMPAIGNS.md has examples.
-
-Further tables: --plan compares with a list of planned cells, --clashes lists for each cell the others that are nearly as
-strong in the same windows, --coverage sums up how much of the way the strongest cell covers. --servers has the best server
-along the way, --grid in squares of ground, --pollution the places with several cells within 6 dB of it, --neighbours who is
-heard with whom, --classes how much of the way each class of RSRP, RSRQ and SINR has. --html has these tables too.
---csv-windows, --geojson and --kml have windows without a cell too. In place of samples, FILE may be a survey that --json
-wrote (.json), which takes --track, --gpsd, --start, --gain and --carrier too.
-
-Debian: python3-numpy, python3-scipy; for --html python3-matplotlib, for --dask python3-distributed. Needs lte_cli and lte_tune (README, "Build").
+Debian: python3-numpy, python3-scipy; for --html python3-matplotlib, for --dask python3-distributed. Needs lte_cli and
+lte_tune (README, "Build").
 """
 from __future__ import annotations
 

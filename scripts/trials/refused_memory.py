@@ -58,8 +58,14 @@ DESCRIPTIONS = {
     "two-ports-description": "two_ports_cell.json",
     "four-ports-description": "four_ports_cell.json",
 }
-SENT = {"two-ports": "--ports 2", "four-ports": "--ports 4", "long-prefix": "--prefix long"}
+SENT = ("two-ports", "four-ports", "long-prefix")
 WIDE = "--identity 301 --width 50 --ports 2 --snr 15 --frames 4 --out"
+
+
+def reference(module, *words):
+    """Returns the output of a module of lte_reference."""
+    words = ["/usr/bin/python3", "-m", f"lte_reference.{module}", *words]
+    return subprocess.run(words, check=True, env={"PYTHONPATH": str(TOP / "python")}, capture_output=True).stdout
 
 
 class Inputs:
@@ -79,7 +85,7 @@ class Inputs:
         if name == "cell-of-8-bits":
             return as_bytes(self.named("cell"))
         if name in SENT:
-            return run(self.program, ["make", "90", *SENT[name].split()], b"")[1].partition(b"\n")[2]
+            return reference(name.replace("-", "_"), "90")
         if name in DESCRIPTIONS:
             return (EXAMPLES / DESCRIPTIONS[name]).read_bytes()
         if name == "wide":
@@ -89,8 +95,7 @@ class Inputs:
 
     def wide(self):
         file = self.room / "wide.ci16"
-        words = ["/usr/bin/python3", "-m", "lte_reference.wide_sender", *WIDE.split(), str(file)]
-        subprocess.run(words, check=True, env={"PYTHONPATH": str(TOP / "python")}, stdout=subprocess.DEVNULL)
+        reference("wide_sender", *WIDE.split(), str(file))
         return file.read_bytes()
 
 
