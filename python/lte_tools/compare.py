@@ -122,6 +122,8 @@ def check(args: argparse.Namespace, given: options.SurveyOptions) -> None:
     """Refuses inputs that cannot be read again, and output files that cannot be written."""
     if given.is_input:
         raise Refused("OURS is a survey or a file of samples: - is only for THEIRS")
+    if args.tolerance < 0:
+        raise Refused(f"--tolerance {args.tolerance:g}: below 0 dB")
     if args.bundle and (given.is_survey or given.scan):
         raise Refused("--bundle: OURS has to be a recording, without --scan: its windows are in the bundle")
     if args.html:

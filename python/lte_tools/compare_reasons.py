@@ -175,8 +175,8 @@ def reasoned_of(verdict: Verdict, theirs: Listed, asker: Asker, survey: Survey) 
         return verdict
     best = max(asked, key=lambda one: (is_deep(one, theirs), rank(one.why)))
     asker.best[verdict.places[:1]] = best.start
-    case = BELOW if is_heard(best, theirs) else NOTHING
-    parts = [f"{'heard below our rule' if case == BELOW else 'nothing there'} at {best.start:.2f} s"]
+    case = BELOW if is_below(best, theirs) else NOTHING
+    parts = [f"{'detected below our rule' if case == BELOW else 'nothing there'} at {best.start:.2f} s"]
     parts += [deep_text(best, theirs), best.why.furthest.text, chance_text(best, theirs), place_text(best, theirs)]
     if case == BELOW:
         parts.append("where the rule ends is our choice")
@@ -197,7 +197,7 @@ def is_at(sample: int, asked: Asked, theirs: Listed) -> bool:
     return abs(away) <= PREFIXES[theirs.prefix == EXTENDED] + SAMPLE
 
 
-def is_heard(asked: Asked, theirs: Listed) -> bool:
+def is_below(asked: Asked, theirs: Listed) -> bool:
     """Returns whether a cell's identity stands out in a window, although its MIB does not reach the rule."""
     furthest = asked.why.furthest
     if is_deep(asked, theirs) or furthest.rule in ("ports", "listed"):

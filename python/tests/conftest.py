@@ -106,6 +106,34 @@ def programs(request, tmp_path, monkeypatch):
     return folder
 
 
+CERTIFY = """#!/usr/bin/python3
+# lte_cli, with certificates of the stored evidence: soft values of 0, whose general table is 0 everywhere
+import json, subprocess, struct, sys
+words, stored = sys.argv[1:], {stored!r}
+if words == ["version"]:
+    print("lte_cli stand-in\\ndefinition 2")
+elif words[0] != "certify":
+    sys.exit(subprocess.run([stored, *words]).returncode)
+else:
+    rules = {{(): "one-port", ("--ports", "2"): "two-ports", ("--ports", "4"): "four-ports"}}
+    name = rules.get(tuple(words[1:]), "long-prefix")
+    done = subprocess.run([stored, "evidence", "--all", "--json"], capture_output=True, check=True)
+    for line in json.loads(done.stdout):
+        if line["rule"] == name:
+            word = int(line["mib"], 16) << 16
+            sys.stdout.buffer.write(b"LTC2" + bytes(240) + word.to_bytes(5, "big") + bytes(4 + 10_240 + 8))
+"""
+
+
+@pytest.fixture
+def certifying(programs, monkeypatch, tmp_path):
+    """The stored programs, with certificates."""
+    path = tmp_path / "lte_cli_with_certificates"
+    path.write_text(CERTIFY.format(stored=str(programs / "lte_cli")))
+    path.chmod(0o755)
+    monkeypatch.setenv("LTE_CLI", str(path))
+
+
 @pytest.fixture
 def tool(monkeypatch, capfd):
     """Runs a tool of lte_tools in this process."""

@@ -307,6 +307,7 @@ def test_exit_status_is_that_of_cmp(tool, files, tmp_path):
     assert tool("compare", ours).status == 2
     assert tool("compare", ours, theirs, "--fields", "colour").status == 2
     assert tool("compare", "-", theirs).status == 2
+    assert tool("compare", ours, theirs, "--tolerance", "-1").status == 2
 
 
 def test_json_fits_the_schema_and_csv_has_its_verdicts(tool, files):
@@ -393,6 +394,14 @@ def test_hostile_list_is_refused_in_one_line(tool, files, tmp_path, name):
     assert str(path) in run.err and sorted(tmp_path.iterdir()) == before
 
 
+def test_capture_without_tshark_is_refused_in_one_line(tool, files, tmp_path, monkeypatch):
+    path = tmp_path / "a.pcap"
+    path.write_bytes(stand_in.capture(stand_in.truth()))
+    monkeypatch.setenv("PATH", str(tmp_path))
+    run = tool("compare", files[0], path)
+    assert is_one_line(run) and run.status == 2 and "tshark" in run.err
+
+
 def test_place_is_named(tool, files):
     files[1].write_text("pci,tac\n271,1\n\n504,1\n")
     assert "line 4: identity: 504 is not between 0 and 503" in tool("compare", *files).err
@@ -447,7 +456,7 @@ def test_invented_cell_has_its_reason(tool, recording, tmp_path):
     assert "at their frame start there is a PSS detection with PCI 217" in found[301][1]
 
 
-def test_weak_cell_is_heard_below_the_rule(tool, sent, tmp_path):
+def test_weak_cell_is_detected_below_the_rule(tool, sent, tmp_path):
     """Cell 217 in noise, in which its identity stands out and no MIB passes its CRC."""
     draw = np.random.default_rng(11)
     noise = draw.standard_normal((len(sent), 2)) @ (1, 1j)
@@ -462,33 +471,6 @@ def test_weak_cell_is_heard_below_the_rule(tool, sent, tmp_path):
 
 
 # ---- bundles
-
-CERTIFY = """#!/usr/bin/python3
-# lte_cli, with certificates of the stored evidence: soft values of 0, whose general table is 0 everywhere
-import json, subprocess, struct, sys
-words, stored = sys.argv[1:], {stored!r}
-if words == ["version"]:
-    print("lte_cli stand-in\\ndefinition 2")
-elif words[0] != "certify":
-    sys.exit(subprocess.run([stored, *words]).returncode)
-else:
-    rules = {{(): "one-port", ("--ports", "2"): "two-ports", ("--ports", "4"): "four-ports"}}
-    name = rules.get(tuple(words[1:]), "long-prefix")
-    done = subprocess.run([stored, "evidence", "--all", "--json"], capture_output=True, check=True)
-    for line in json.loads(done.stdout):
-        if line["rule"] == name:
-            word = int(line["mib"], 16) << 16
-            sys.stdout.buffer.write(b"LTC2" + bytes(240) + word.to_bytes(5, "big") + bytes(4 + 10_240 + 8))
-"""
-
-
-@pytest.fixture
-def certifying(programs, monkeypatch, tmp_path):
-    """The stored programs, with certificates."""
-    path = tmp_path / "lte_cli_with_certificates"
-    path.write_text(CERTIFY.format(stored=str(programs / "lte_cli")))
-    path.chmod(0o755)
-    monkeypatch.setenv("LTE_CLI", str(path))
 
 
 @pytest.fixture
