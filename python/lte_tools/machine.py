@@ -58,6 +58,28 @@ def stop(kind: int, _: FrameType | None) -> None:
     raise Stopped(kind)
 
 
+def hold_stop() -> None:
+    """Holds SIGTERM back while a process is forked, where `stop` waits for it."""
+    if signal.getsignal(signal.SIGTERM) is stop:
+        signal.pthread_sigmask(signal.SIG_BLOCK, {signal.SIGTERM})
+
+
+def release_stop() -> None:
+    """Lets SIGTERM through again."""
+    if signal.getsignal(signal.SIGTERM) is stop:
+        signal.pthread_sigmask(signal.SIG_UNBLOCK, {signal.SIGTERM})
+
+
+def end_at_once() -> None:
+    """Lets SIGTERM end a process that was just forked, which else would go on as the tool itself at `stop`."""
+    if signal.getsignal(signal.SIGTERM) is stop:
+        signal.signal(signal.SIGTERM, signal.SIG_DFL)
+        signal.pthread_sigmask(signal.SIG_UNBLOCK, {signal.SIGTERM})
+
+
+os.register_at_fork(before=hold_stop, after_in_parent=release_stop, after_in_child=end_at_once)
+
+
 def tool_name() -> str:
     """Returns the name by which this tool was called."""
     return pathlib.Path(sys.argv[0]).name

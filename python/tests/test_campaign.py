@@ -12,7 +12,7 @@ import numpy as np
 import pytest
 
 import lte_tools
-from lte_tools import engine, parts, progress, sightings, surveying
+from lte_tools import engine, machine, parts, progress, sightings, surveying
 from tests.conftest import HERE, SECONDS, is_one_line, needs
 
 WORDS = ("--rate", "1.2e6", "--every", "1", "--json")
@@ -57,6 +57,22 @@ def undisturbed(stand_ins, long_file):
 
 
 # ---- stopped and continued
+
+
+def test_forked_process_is_no_tool():
+    """SIGTERM ends a forked process at once, also before the process sets its own handlers."""
+    before = signal.signal(signal.SIGTERM, machine.stop)
+    try:
+        child = os.fork()
+        if child == 0:
+            try:
+                time.sleep(5)
+            finally:
+                os._exit(7)
+        os.kill(child, signal.SIGTERM)
+        assert os.waitstatus_to_exitcode(os.waitpid(child, 0)[1]) == -signal.SIGTERM
+    finally:
+        signal.signal(signal.SIGTERM, before)
 
 
 def test_killed_at_random_moments(undisturbed, stand_in, long_file, tmp_path):
