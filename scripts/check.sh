@@ -17,7 +17,7 @@
 #     kept in ~/.cache/lte_gate. It is not kept in the repository, where a committed checksum would not show that
 #     anybody ran it;
 #   made: manual pages and completion are those made from the forms of help and the tools' parsers, mandoc accepts them,
-#     and completion offers each form's words;
+#     and completion offers each form's words; docs/OUTPUTS.md is the page made from the schema;
 #   pytest: python/tests, over all three packages, in two processes: tests/gate, and the others.
 # black, mypy and pytest run next to the other checks, and what they print follows; CHECK_JOBS=1 runs one after another.
 # Run by hand: copies counts near copies; stands lists commits that do not stand as a whole (scripts/gate.sh lists all).

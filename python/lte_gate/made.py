@@ -1,8 +1,9 @@
 """made [--write]
 
-Compares the manual pages (scripts/install/man), the completion (scripts/install/completion) and the table of columns in
-docs/RECORDINGS.md with those that are made now from the command forms of `help`, docs/FORMATS.md, the tools' parsers and
-the survey's columns; the status is 1 if one differs. With --write it writes them.
+Compares generated files with the files that are made now. They are the manual pages (scripts/install/man), the completion
+(scripts/install/completion), the table of columns in docs/RECORDINGS.md, and docs/OUTPUTS.md. They are made from the
+command forms of `help`, docs/FORMATS.md, the tools' parsers, the survey's columns, and the schema of the JSON outputs. The
+status is 1 if one differs. With --write it writes them.
 
 Needs numpy, scipy and matplotlib (Debian: python3-numpy, python3-scipy, python3-matplotlib), which the tools import.
 """
@@ -11,7 +12,7 @@ import itertools
 
 from lte_tools import columns
 
-from . import command_forms, completions, man_pages, tool_parsers
+from . import command_forms, completions, man_pages, outputs_page, tool_parsers
 from .repository import TOP, Refused, report, run
 
 HERE = TOP / "scripts/install"
@@ -23,6 +24,7 @@ def made():
     programs, tools = command_forms.programs(), tool_parsers.tools()
     found = {HERE / "man" / name: text for name, text in man_pages.pages(programs, tools).items()}
     found |= {HERE / "completion" / name: text for name, text in completions.texts(programs, tools).items()}
+    found[outputs_page.PAGE] = outputs_page.page()
     return found | {RECORDINGS: with_columns(RECORDINGS.read_text(encoding="utf-8"))}
 
 
@@ -45,7 +47,8 @@ def write(files):
 
 def different(files):
     """Yields the files that differ, and those that nothing makes."""
-    there = {path for folder in ("man", "completion") for path in (HERE / folder).glob("*")} | {RECORDINGS}
+    there = {path for folder in ("man", "completion") for path in (HERE / folder).glob("*")}
+    there |= {path for path in (RECORDINGS, outputs_page.PAGE) if path.is_file()}
     yield from (path for path, text in files.items() if path not in there or path.read_text(encoding="utf-8") != text)
     yield from sorted(there - files.keys())
 
@@ -62,7 +65,7 @@ def main():
     if args.write:
         write(files)
     faults = [f"{path.relative_to(TOP)}: differs: scripts/gate.sh made --write" for path in different(files)]
-    return report("manual pages, completion and table of columns", faults, f"{len(files)} files")
+    return report("manual pages, completion, table of columns and page of outputs", faults, f"{len(files)} files")
 
 
 if __name__ == "__main__":
