@@ -16,12 +16,12 @@ COMMANDS = {
     "search_cancel": "lte_cli search --cancel --json",
     "evidence": "lte_cli evidence --json",
     "evidence_all": "lte_cli evidence --all --json",
-    "why": "lte_cli why --json",
+    "why": "lte_cli why PCI --json",
     "tell": "lte_tune tell --json",
     "survey": "lte_survey --json",
     "diff": "lte_diff --json",
     "compare": "lte_compare --json",
-    "bundle": "lte_compare --bundle: bundle.json",
+    "bundle": "lte_compare --bundle FILE.tar",
 }  # by definition of the schema
 HEAD = """# Outputs
 
